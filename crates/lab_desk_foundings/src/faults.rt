@@ -1,4 +1,4 @@
-//! Why a founding founded nothing.
+//! Why no laboratory was founded.
 
 ghost use Rattle.std.specs.Prelude.{◌≡◌, Some};
 ghost use Rattle.lab_desk_foundings.specs.Faults.{found_fault_entry, is_taken};
@@ -10,20 +10,20 @@ use lab_wire_members::{BodyFault, BodyRefusal};
 use std::fmt;
 use thiserror::Error;
 
-/// Why a founding founded nothing. Nothing was changed. Its text is its word.
+/// Why no laboratory was founded. Nothing was changed. A fault is printed as its word.
 #[derive(Clone, Copy, Debug, PartialEq, Eq, Error)]
 pub enum FoundFault {
-    /// The body is none of a founding.
+    /// The body isn't the body of a founding.
     Body(BodyRefusal),
-    /// No laboratory is born from it.
+    /// No laboratory can be made from the body.
     Birth(BirthRefusal),
     /// The keeper founded nothing, or memory ran out before.
     Placing(PlacingFault),
 }
 
 impl FoundFault {
-    /// Whether the founding was taken all the same: it was, unless memory ran out or the store
-    /// refused.
+    /// Returns whether the founding was taken although it failed: it was, unless memory ran out or
+    /// the store failed.
     pub fn is_taken(&self) -> bool
         ensures { result ≡ is_taken self.now }
     {
@@ -46,14 +46,14 @@ impl FoundFault {
         }
     }
 
-    /// The number by which the fault is known.
+    /// Returns the number of the fault.
     pub fn number(&self) -> Option<u32>
         ensures { result ≡ Some (found_fault_entry self.now).number }
     {
         self.entry().0
     }
 
-    /// The word by which the fault is known.
+    /// Returns the word of the fault.
     pub fn word(&self) -> &'static str
         ensures { result.now ≡ (found_fault_entry self.now).word }
     {
@@ -61,7 +61,7 @@ impl FoundFault {
     }
 }
 
-/// A body was not read.
+/// For a body that was not read.
 impl From<BodyFault> for FoundFault {
     ghost use Rattle.lab_desk_foundings.specs.Faults.{fault_of_body};
 
@@ -75,7 +75,7 @@ impl From<BodyFault> for FoundFault {
     }
 }
 
-/// No laboratory is born.
+/// For a body from which no laboratory can be made.
 impl From<BirthRefusal> for FoundFault {
     ghost use Rattle.lab_desk_foundings.specs.declared.faults.FoundFault.TheVariants.{Birth};
 
@@ -98,7 +98,7 @@ impl From<OutOfMemory> for FoundFault {
     }
 }
 
-/// A keeper founded nothing.
+/// For a keeper that founded nothing.
 impl From<PlacingFault> for FoundFault {
     ghost use Rattle.lab_desk_foundings.specs.declared.faults.FoundFault.TheVariants.{Placing};
 

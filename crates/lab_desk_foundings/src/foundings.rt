@@ -1,4 +1,4 @@
-//! What a founding's body bears, and the line that answers a founding.
+//! The contents of a founding's body, and the line that is printed for a founding.
 
 ghost use Rattle.std.specs.Prelude.{◌≡◌, ◌<◌, ◌⊎◌, length, IfOk, IfErr, None, Ok, true, false, option_map};
 ghost use Rattle.lab_records_kept.specs.Births.{newborn_lab};
@@ -20,7 +20,7 @@ use std::alloc::Global;
 /// The most bytes of a founding's body.
 const BODY_LIMIT: usize = 1_000_000;
 
-// What a keeper founds the laboratory of the code from, by a body of no more bytes than it may have.
+// What a keeper founds the laboratory with the code from, read from a body within the limit.
 fn newborn_within(
     alloc: Global,
     lab: &LabCode,
@@ -39,10 +39,11 @@ fn newborn_within(
     }
 }
 
-/// What a keeper founds the laboratory of the code from, by its body. A body of more bytes than it may have isn't read.
+/// Returns what a keeper founds the laboratory with the code from, read from its body. A body over
+/// the limit isn't read.
 ///
 /// # Errors
-/// The founding's refusal, the store's, or memory that ran out.
+/// The founding is refused, the store failed, or memory ran out.
 pub fn newborn_of(
     alloc: Global,
     lab: &LabCode,
@@ -51,9 +52,10 @@ pub fn newborn_of(
 ) -> Result<Newborn, FoundFault>
     ensures born { IfOk result (λ newborn.
         IsNewborn lab.now tick.now (founding_in body.now) (newborn_lab newborn)) }
-    // The keeper wasn't asked, so neither that the laboratory exists nor the store is a fault:
+    // The keeper wasn't asked, so the fault is neither that the laboratory exists nor one of the
+    // store:
     ensures fault { IfErr result (FoundFaultFits ⊥ ⊥ lab.now tick.now (founding_in body.now)) }
-    // An empty body is refused, which takes no memory:
+    // An empty body is refused, which needs no memory:
     ensures memory { IfErr result (λ fault. fault ≡ Placing Memory → 0 < length body.now) }
 {
     if body.len() > BODY_LIMIT {
@@ -62,7 +64,7 @@ pub fn newborn_of(
     newborn_within(alloc, lab, tick, body)
 }
 
-/// The line that tells of a founding.
+/// Returns the line that reports a founding.
 ///
 /// # Errors
 /// Memory ran out.
@@ -73,7 +75,7 @@ pub fn founded_line(alloc: Global, lab: &LabCode) -> Result<Vec<u8>, OutOfMemory
     Ok(format!(in alloc; "founded {code}\n")?.into_bytes())
 }
 
-// The line that tells of a refused founding.
+// The line that reports a refused founding.
 fn refused_line(alloc: Global, fault: &FoundFault) -> Result<Vec<u8>, OutOfMemory>
     ensures { IfOk result (λ line. line.items ≡ refused_line (found_fault_entry fault.now)) }
 {
@@ -82,7 +84,8 @@ fn refused_line(alloc: Global, fault: &FoundFault) -> Result<Vec<u8>, OutOfMemor
     Ok(format!(in alloc; "refused {number} {word}\n")?.into_bytes())
 }
 
-/// The line that tells of a founding that failed, and whether it was taken all the same.
+/// Returns the line that reports a founding that failed, and whether the founding was taken all the
+/// same.
 pub fn line_of_fault(alloc: Global, fault: &FoundFault) -> Line
     ensures taken { result.taken ≡ true → (is_taken fault.now ≡ true)
         × (shown (option_map (λ line. line.items) result.text)
@@ -102,20 +105,20 @@ pub fn line_of_fault(alloc: Global, fault: &FoundFault) -> Line
     }
 }
 
-/// The line that answers a founding for lack of memory; no memory is taken for it.
+/// The line for a founding if memory runs out; it needs no memory.
 const MEMORY_LINE: &[u8] = b"refused 90 memory\n";
 
-/// The line that answers a founding, and whether the founding was taken.
+/// The line that is printed for a founding, and whether the founding was taken.
 #[derive(Drop)]
 pub struct Line {
-    /// Whether the founding was taken: it was, unless memory ran out or the store refused.
+    /// Whether the founding was taken: it was, unless memory ran out or the store failed.
     pub taken: bool,
-    /// The line; where there is none, it is that for lack of memory.
+    /// The line, or `None` for the line that reports that memory ran out.
     pub text: Option<Vec<u8>>,
 }
 
 impl Line {
-    /// The line for lack of memory.
+    /// Returns the line that reports that memory ran out.
     pub fn of_memory() -> Line
         ensures { result ≡ record { taken = false; text = None } }
     {
@@ -125,7 +128,7 @@ impl Line {
         }
     }
 
-    /// The bytes of the line.
+    /// Returns the bytes of the line.
     pub fn bytes(&self) -> &[u8]
         ensures { result.now ≡ shown (option_map (λ line. line.items) self.now.text) }
     {

@@ -1,5 +1,5 @@
-//! What the body of a founding bears and why a founding founded nothing; why a run of events ended before
-//! its last, and why a request was not served whole. No keeper is asked.
+//! What the body of a founding contains and why no laboratory was founded; why a run of events
+//! ended before its last event; and why a request was not served whole. This crate asks no keeper.
 #![tactic(auto)]
 
 mod faults;

@@ -7,23 +7,23 @@ use lab_forms_texts::OutOfMemory;
 use std::fmt;
 use thiserror::Error;
 
-/// Why a run ended before its last event. Its text is its word.
+/// Why a run ended before its last event. A fault is printed as its word.
 #[derive(Debug, Drop, Error)]
 pub enum RunFault {
-    /// There was no memory for the list that a run answers. Nothing was handled or written.
+    /// Memory ran out for the list that a run returns. Nothing was handled or written.
     Memory,
     /// A write failed, or took no byte. The event whose answer was being written stands, and those
     /// after it were not handled.
     Write {
-        /// For each event up to and with the one whose answer was cut, whether it was taken.
+        /// For each event up to and including the one whose answer was cut, whether it was taken.
         taken: Vec<bool>,
-        /// How many bytes of that answer went out.
+        /// How many bytes of that answer were written.
         sent: usize,
     },
 }
 
 impl RunFault {
-    /// The number by which the fault is known: 90 where memory ran out, none for a write fault.
+    /// Returns the number of the fault: 90 if memory ran out, `None` for a write fault.
     pub fn number(&self) -> Option<u32>
         ensures { result ≡ run_fault_number self.now }
     {
@@ -33,7 +33,7 @@ impl RunFault {
         }
     }
 
-    /// The word by which the fault is known.
+    /// Returns the word of the fault.
     pub fn word(&self) -> &'static str
         ensures { result.now ≡ run_fault_word self.now }
     {
@@ -55,33 +55,33 @@ impl fmt::Display for RunFault {
     }
 }
 
-/// Why a request was not served whole. Its text is its word.
+/// Why a request was not served whole. A fault is printed as its word.
 #[derive(Clone, Copy, Debug, PartialEq, Eq, Error)]
 pub enum ServeFault {
-    /// The reader failed before the request had come whole. It was not answered, and nothing was
+    /// The reader failed before the whole request came. It was not answered, and nothing was
     /// changed.
     Read,
     /// A write of the interim answer failed, or took no byte. Nothing was changed.
     Interim {
-        /// How many of its bytes went out before.
+        /// How many of its bytes were sent before.
         sent: usize,
     },
     /// A write of the reply failed, or took no byte. The request stands.
     Reply {
-        /// How many of the reply's bytes went out before.
+        /// How many of the reply's bytes were sent before.
         sent: usize,
     },
 }
 
 impl ServeFault {
-    /// The number by which the fault is known: none, since no reply can tell of it.
+    /// Returns `None`: the fault has no number, because no reply can report it.
     pub fn number(&self) -> Option<u32>
         ensures { result ≡ None }
     {
         None
     }
 
-    /// The word by which the fault is known.
+    /// Returns the word of the fault.
     pub fn word(&self) -> &'static str
         ensures { result.now ≡ serve_fault_word self.now }
     {

@@ -1,6 +1,6 @@
-//! What a request is answered by: where there is no laboratory of the code, the refusal; else, by
-//! the part that was loaded, what the machine decides, built whole before the keeper makes the
-//! changes, which is the last thing.
+//! The answer to a request. If no laboratory has the code, the answer is the refusal. Otherwise,
+//! the machine decides on the part that was loaded, the answer is built whole, and then the keeper
+//! makes the changes, which is the last step.
 
 ghost use Rattle.std.specs.Prelude.{◌≡◌, All, IfOk, IfErr};
 ghost use Rattle.lab_forms_texts.specs.declared.refusals.Fault.TheVariants.{Memory};
@@ -20,10 +20,10 @@ use lab_records_walks::changes_are_legible;
 use lab_wire::{Answer, Asked, reply_bytes};
 use std::alloc::Global;
 
-/// The reply where there is no laboratory of the code.
+/// Returns the reply that no laboratory has the code.
 ///
 /// # Errors
-/// The store refused, or memory ran out.
+/// The store failed, or memory ran out.
 pub fn no_such_lab(alloc: Global, tick: &Tick) -> Result<Vec<u8>, KeeperFault>
     ensures reply { IfOk result (λ reply. reply.items ≡ reply_text tick.now
         (Replied (Reply.Refused Refusal.NoSuchLab))) }
@@ -35,11 +35,11 @@ pub fn no_such_lab(alloc: Global, tick: &Tick) -> Result<Vec<u8>, KeeperFault>
     Ok(reply?)
 }
 
-/// Answers by the part of the laboratory: what is decided on it is replied, and its changes are
-/// made. After an error every laboratory means what it meant.
+/// Returns the reply to what is decided on the part of the laboratory, and makes its changes. After
+/// an error the meaning of every laboratory is unchanged.
 ///
 /// # Errors
-/// The store refused, or memory ran out.
+/// The store failed, or memory ran out.
 pub fn answer_on<S: Keeper>(
     alloc: Global,
     keeper: &mut S,

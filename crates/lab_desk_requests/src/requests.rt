@@ -1,5 +1,5 @@
-//! How a laboratory is asked over any keeper: its part is loaded, and it is answered by that, or
-//! where there is none, told so.
+//! Answers a request over any keeper: loads the part that the request needs, or replies that no
+//! laboratory has the code.
 
 ghost use Rattle.std.specs.Prelude.{◌≡◌, All, Ok, IsTrue, IfOk, OnOk};
 ghost use Rattle.lab_records_kept.specs.Worlds.{Given, Quiet};
@@ -22,8 +22,8 @@ use lab_records_walks::order_is_legible;
 use lab_wire::Asked;
 use std::alloc::Global;
 
-// Loads the part of the laboratory that its instruction needs, or none where there is no
-// laboratory of the code.
+// Loads the part of the laboratory that its instruction needs, or `None` if no laboratory has the
+// code.
 fn load_needed<S: Keeper>(
     keeper: &mut S,
     tick: &Tick,
@@ -41,7 +41,8 @@ fn load_needed<S: Keeper>(
     loaded
 }
 
-// What a copy is asked for, and when, are what their types admit. A law: the command is left as it is.
+// The records and the moment of a request for a copy are what their types admit. A law: the command
+// is unchanged.
 fn asked_legibly(tick: &Tick, command: &Command)
     ensures { IsAskedLegibly tick.now.moment command.now }
 {
@@ -50,10 +51,11 @@ fn asked_legibly(tick: &Tick, command: &Command)
     }
 }
 
-/// Answers what a laboratory was asked. After an error every laboratory means what it meant.
+/// Answers what a laboratory was asked. After an error the meaning of every laboratory is
+/// unchanged.
 ///
 /// # Errors
-/// The store refused, or memory ran out.
+/// The store failed, or memory ran out.
 pub fn answer_asked<S: Keeper>(
     alloc: Global,
     keeper: &mut S,
@@ -71,7 +73,7 @@ pub fn answer_asked<S: Keeper>(
         asked.instruction) →
         Given (S.world keeper.old) (S.world keeper.new)
         (Quiet (S.world keeper.old) (S.world keeper.new)) }
-    // Where every laboratory is within its limits:
+    // If every laboratory is within its limits:
     ensures does { AreWithin (S.world keeper.old) →
         Given (S.world keeper.old) (S.world keeper.new)
         (DoesStep (S.world keeper.old) (S.world keeper.new) tick.now asked

@@ -1,4 +1,4 @@
-//! What a person at a terminal is advised to do, below the line that says why a task stopped.
+//! The advice for a person at a terminal, below the line that says why a task stopped.
 
 use crate::flaw_rows::write_of_flaw;
 use crate::spots::Spot;
@@ -11,13 +11,13 @@ use std::fs::{self, File};
 use std::io::{self, ErrorKind, IsTerminal, Write};
 use std::net::{Ipv4Addr, SocketAddr, SocketAddrV4, TcpListener};
 
-/// The schema whose files are moved.
+/// The number of the schema whose files are moved.
 const MOVED: u64 = 2;
 
-/// The schema whose files are served.
+/// The number of the schema whose files are served.
 const OWN: u64 = 3;
 
-/// Writes what a person should look at.
+/// Writes what a person should check.
 pub fn write_advice<W: Write>(
     rt: &HostRuntime,
     spot: Option<Spot>,
@@ -62,7 +62,7 @@ pub fn write_advice<W: Write>(
     }
 }
 
-// What is waited for, where standard input is the terminal.
+// Writes what the program waits for, if standard input is the terminal.
 fn write_of_waiting<W: Write>(
     rt: &HostRuntime,
     errors: &mut W,
@@ -87,7 +87,7 @@ fn write_of_waiting<W: Write>(
     }
 }
 
-// Of a port that can't be listened at, by what another try says.
+// Writes the advice for a port that can't be listened at, by the result of another try.
 fn write_of_port<W: Write>(rt: &HostRuntime, errors: &mut W, port: u16) -> io::Result<()> {
     let address = SocketAddr::V4(SocketAddrV4::new(Ipv4Addr::LOCALHOST, port));
     match TcpListener::bind(rt, address) {
@@ -102,7 +102,7 @@ fn write_of_port<W: Write>(rt: &HostRuntime, errors: &mut W, port: u16) -> io::R
     }
 }
 
-// Of a file that was not opened.
+// Writes the advice for a file that wasn't opened.
 fn write_of_file<W: Write>(
     rt: &HostRuntime,
     errors: &mut W,
@@ -124,7 +124,7 @@ fn write_of_file<W: Write>(
     }
 }
 
-// Of an old file that was not opened.
+// Writes the advice for an old file that wasn't opened.
 fn write_of_old<W: Write>(
     rt: &HostRuntime,
     errors: &mut W,
@@ -150,7 +150,7 @@ fn write_of_old<W: Write>(
     }
 }
 
-// Of a new file that was not opened.
+// Writes the advice for a new file that wasn't opened.
 fn write_of_new<W: Write>(
     rt: &HostRuntime,
     errors: &mut W,
@@ -166,7 +166,7 @@ fn write_of_new<W: Write>(
     }
 }
 
-// Of a move that stopped.
+// Writes the advice for a move that stopped.
 fn write_of_move<W: Write>(
     errors: &mut W,
     path: &str,
@@ -182,7 +182,7 @@ fn write_of_move<W: Write>(
     }
 }
 
-// Of a founding that founded nothing.
+// Writes the advice for a founding that founded nothing.
 fn write_of_founding<W: Write>(
     rt: &HostRuntime,
     spot: Option<Spot>,
@@ -206,7 +206,7 @@ fn write_of_founding<W: Write>(
     }
 }
 
-// Of a file that isn't one of laboratories, by what lies at the path.
+// Writes the advice for a file that isn't one of laboratories, by what lies at the path.
 fn write_of_kind<W: Write>(rt: &HostRuntime, errors: &mut W, path: &str) -> io::Result<()> {
     match fs::metadata(rt, path) {
         Ok(found) if !found.is_file() => writeln!(errors, "{path} is no regular file."),
@@ -221,7 +221,7 @@ fn write_of_kind<W: Write>(rt: &HostRuntime, errors: &mut W, path: &str) -> io::
     }
 }
 
-// Of a file that the store refused, by whether it may be read.
+// Writes the advice for a file that the store refused, by whether it may be read.
 fn write_of_storage<W: Write>(rt: &HostRuntime, errors: &mut W, path: &str) -> io::Result<()> {
     if fs::metadata(rt, path).is_err() {
         writeln!(

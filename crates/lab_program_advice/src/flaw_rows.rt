@@ -1,4 +1,5 @@
-//! Which record and version the row of a copy is of at which a check found a flaw, said to a person at a terminal.
+//! For a person at a terminal: the record and version of the row of a copy at which a check found a
+//! flaw.
 
 use std::fs::{self, File};
 use std::io::{self, Read, Write};
@@ -6,10 +7,12 @@ use std::io::{self, Read, Write};
 /// The path at which this process finds its standard input.
 const INPUT: &str = "/dev/stdin";
 
-/// The most bytes of a row's front that are kept: its kind, its laboratory and two numbers have fewer.
+/// How many bytes of a row's front are kept at most: its kind, its laboratory and two numbers have
+/// fewer.
 const FRONT: usize = 64;
 
-// Looks for a row of CSV, and keeps its first bytes. An empty line is no row, and a line's end in quotes ends none.
+// Finds a row of CSV, and keeps its first bytes. An empty line isn't a row, and a line's end within
+// quotes doesn't end a row.
 #[derive(Drop)]
 struct RowSearch {
     wanted: u64,
@@ -32,7 +35,7 @@ impl RowSearch {
         }
     }
 
-    // Takes the next byte. Whether the row that is wanted is behind it.
+    // Takes the next byte. Returns whether the wanted row is complete.
     fn take(&mut self, byte: u8) -> bool {
         if matches!(byte, b'\n' | b'\r') && !self.is_quoted {
             return self.end();
@@ -48,7 +51,7 @@ impl RowSearch {
         false
     }
 
-    // A line ends.
+    // Handles the end of a line.
     fn end(&mut self) -> bool {
         if self.is_empty {
             return false;
@@ -63,7 +66,7 @@ impl RowSearch {
     }
 }
 
-// What a row of a copy is of: its record, and its version where it is of one.
+// What a row of a copy belongs to: its record, and its version if it belongs to one.
 #[derive(Clone, Copy, Debug, PartialEq, Eq)]
 struct RowPlace {
     kind: &'static str,
@@ -71,7 +74,7 @@ struct RowPlace {
     version: Option<u32>,
 }
 
-// What a row's first fields say.
+// What a row's first fields say about its place.
 fn place_in(front: &str) -> Option<RowPlace> {
     let mut fields = front.split(',');
     let (kind, is_of_version) = match fields.next()?.trim_matches('"') {
@@ -91,7 +94,8 @@ fn place_in(front: &str) -> Option<RowPlace> {
     })
 }
 
-// What a row of standard input is of, where that is a file, which is read once more from its beginning.
+// The place of a row of standard input, if standard input is a file, which is read once more from
+// its beginning.
 fn place_of(rt: &HostRuntime, row: u64) -> Option<RowPlace> {
     if !fs::metadata(rt, INPUT).ok()?.is_file() {
         return None;
@@ -114,7 +118,7 @@ fn place_of(rt: &HostRuntime, row: u64) -> Option<RowPlace> {
     None
 }
 
-// What the word of a flaw at a row says.
+// The text for the word of a flaw at a row.
 fn flaw_said(word: &str) -> &'static str {
     match word {
         "digest" => "its digest isn't that of what it stands for",
@@ -125,7 +129,7 @@ fn flaw_said(word: &str) -> &'static str {
     }
 }
 
-/// Says of a copy with a flaw what is wrong, and where.
+/// Writes what is wrong in a copy with a flaw, and where.
 pub(crate) fn write_of_flaw<W: Write>(
     rt: &HostRuntime,
     errors: &mut W,

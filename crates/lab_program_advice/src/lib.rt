@@ -1,4 +1,4 @@
-//! What a person at a terminal is advised to do where a task stopped.
+//! The advice for a person at a terminal when a task stopped.
 #![tactic(auto)]
 
 mod advice;

@@ -1,4 +1,4 @@
-//! Where bytes cease to be a founding that is taken, said to a person at a terminal.
+//! For a person at a terminal: the first place where bytes aren't a founding that is accepted.
 
 use lab_forms_texts::PersonCode;
 use serde_json::Value;
@@ -11,12 +11,12 @@ const BODY_LIMIT: usize = 1_000_000;
 /// The most bytes of a name.
 const NAME_LIMIT: usize = 120;
 
-/// Whose name it is.
+/// The owner of a name.
 #[derive(Clone, Copy, Debug, PartialEq, Eq)]
 pub enum Whose {
-    /// That of the first founder, the second or the third.
+    /// The first, the second or the third founder.
     Founder(usize),
-    /// That of the laboratory.
+    /// The laboratory.
     Lab,
 }
 
@@ -29,24 +29,24 @@ impl Whose {
     }
 }
 
-/// Where bytes cease to be a founding.
+/// The first place where bytes aren't a founding.
 #[derive(Clone, Copy, Debug, PartialEq, Eq)]
 pub enum Spot {
-    /// There are none, or blanks alone.
+    /// There are no bytes, or only blanks.
     Nothing,
-    /// There are more than a founding has.
+    /// There are more bytes than a founding may have.
     Long,
-    /// At this line and column they cease to be JSON.
+    /// At this line and column the bytes stop being JSON.
     Json { line: usize, column: usize },
-    /// They are JSON, and no founding.
+    /// The bytes are JSON, but not a founding.
     Members,
-    /// The code of this founder is none.
+    /// The code of this founder isn't a code.
     Code(usize),
-    /// This name is none, for this.
+    /// This name isn't allowed, for this reason.
     Name(Whose, &'static str),
-    /// These two founders have one code.
+    /// These two founders have the same code.
     Shared(usize, usize),
-    /// The password of this founder has so many bytes.
+    /// The password of this founder has this many bytes.
     Password(usize, usize),
 }
 
@@ -55,7 +55,7 @@ fn text_at<'v>(value: &'v Value, name: &str) -> Option<&'v str> {
     value.get(name)?.as_str()
 }
 
-// Why a text is no name, where it is none.
+// Why a text isn't a name, or `None` if it is one.
 fn name_fault(text: &str) -> Option<&'static str> {
     if text.is_empty() || text.len() > NAME_LIMIT {
         Some("has to have 1 to 120 bytes")
@@ -91,7 +91,7 @@ fn spot_in_passwords(founders: &[Value]) -> Option<Spot> {
     None
 }
 
-// Which two founders have one code.
+// The two founders that have the same code.
 fn spot_in_codes(one: &Value, two: &Value, three: &Value) -> Option<Spot> {
     let first = text_at(one, "code")?;
     let second = text_at(two, "code")?;
@@ -107,7 +107,8 @@ fn spot_in_codes(one: &Value, two: &Value, three: &Value) -> Option<Spot> {
     }
 }
 
-// What is wrong with three founders and the laboratory's name, in the order in which a founding is read.
+// What is wrong with three founders and the laboratory's name, in the order in which a founding is
+// read.
 fn spot_among(alloc: Global, value: &Value, founders: &[Value]) -> Option<Spot> {
     let [one, two, three] = founders else {
         return Some(Spot::Members);
@@ -130,7 +131,7 @@ fn spot_among(alloc: Global, value: &Value, founders: &[Value]) -> Option<Spot> 
 }
 
 impl Spot {
-    /// Where these bytes cease to be a founding, which they aren't.
+    /// Returns the first place where these bytes, which aren't a founding, stop being one.
     pub fn of(alloc: Global, bytes: &[u8]) -> Spot {
         if bytes.iter().all(|byte| byte.is_ascii_whitespace()) {
             return Spot::Nothing;
@@ -161,7 +162,7 @@ impl Spot {
         }
     }
 
-    /// The same of bytes that are no body, the texts in which aren't looked at.
+    /// Returns the same place for bytes that aren't a founding's body, whose texts aren't checked.
     pub(crate) fn of_body(self) -> Spot {
         match self {
             Spot::Nothing | Spot::Long | Spot::Json { .. } => self,
@@ -169,7 +170,7 @@ impl Spot {
         }
     }
 
-    /// Says it, in a line.
+    /// Writes the place, in a line.
     pub(crate) fn write<W: Write>(self, errors: &mut W) -> io::Result<()> {
         match self {
             Spot::Nothing => writeln!(

@@ -1,4 +1,4 @@
-//! Each command of `labdesk` with its arguments, as `clap` is told of it, and what help says of it.
+//! Each command of `labdesk` with its arguments, as it is declared to `clap`, and its help.
 
 ghost use Rattle.std.specs.Prelude.{◌≡◌, IfOk, false};
 ghost use Rattle.clap.specs.Words.{app_of, new_app, rule_of, with_rule};
@@ -7,7 +7,7 @@ ghost use Rattle.lab_program_app.specs.Apps.{check_app, copy_app, count_rule, fi
 use clap::{Arg, Command, value_parser};
 use std::alloc::{AllocError, Global};
 
-/// What help says of a founding.
+/// The help of `found`.
 const FOUNDING: &str =
     "It founds a laboratory in the file, at the moment of the clock, and prints `founded` and its
 code. A file is made where there is none, and stays where the founding is refused. The input is a
@@ -16,21 +16,21 @@ JSON object: the laboratory's `name`, and three `founders`, each with `code`, `n
 
     labdesk found --file laboratories --lab aqua < examples/founding.json";
 
-/// What help says of serving.
+/// The help of `serve`.
 const SERVING: &str =
     "It prints `listening` and its address once clients can connect, serves so many connections one
 after the other, and ends. Requests and replies are described in docs/HTTP.md. An example:
 
     labdesk serve --file laboratories --port 8080";
 
-/// What help says of the making of a copy.
+/// The help of `copy`.
 const COPYING: &str =
     "It writes the inspection copy of the laboratory's records of these numbers to standard output.
 A copy is described in docs/COPIES.md. An example:
 
     labdesk copy --file laboratories --lab aqua --from 1 --to 100 > copy.csv";
 
-/// What help says of a move.
+/// The help of `migrate`.
 const MIGRATING: &str =
     "It moves every laboratory of an old file, one of schema 2, into a new file, and prints
 `migrated` and how many they were. Versions keep their texts, digests and signatures. The old file
@@ -40,7 +40,7 @@ docs/FORMATS.md. An example:
 
     labdesk migrate --old laboratories --new laboratories-3";
 
-/// What help says of the check of a copy.
+/// The help of `check`.
 const CHECKING: &str =
     "It tells `good` and how many records, versions, entries and signatures the copy has, or
 `bad`, what is wrong first, and the row. The input is CSV, as `labdesk copy` writes it, and is
@@ -48,7 +48,7 @@ described in docs/COPIES.md. An example:
 
     labdesk check < copy.csv";
 
-/// What help says of the input of a replay.
+/// The help of `replay`, about its input.
 const REPLAYING: &str =
     "An event is a line, and right after it as many bytes as the line's last number says:
 
@@ -59,7 +59,7 @@ The input is described in docs/FORMATS.md. An example:
 
     labdesk replay < examples/two-laboratories.events";
 
-/// What help says of a rehearsal.
+/// The help of `rehearse`.
 const REHEARSING: &str =
     "It founds the laboratory in memory, at the first of all moments, asks for its card over a
 socket of this machine at the given moment, and prints the reply. The input is a JSON object, as
@@ -70,15 +70,15 @@ that of `labdesk found`, and is described in docs/FORMATS.md. An example:
 /// The seconds of the last moment.
 const LAST_SECOND: i64 = 253_402_300_799;
 
-/// The most connections that are served.
+/// The greatest number of connections that are served.
 const MOST_CONNECTIONS: i64 = 1_000_000_000;
 
-/// The number of the last record that there may be.
+/// The greatest number of a record.
 const LAST_RECORD: i64 = 1_000_000_000;
 
 // ---- arguments
 
-// An argument behind `--` and its name, and what help calls its value.
+// An argument named after `--`, and the name of its value in the help.
 fn named_argument<'a>(alloc: Global, name: &'a str, value: &'a str, help: &'a str) -> Arg<'a>
     ensures rule { rule_of result ≡ named_rule name.entry.now }
     ensures local { result.global ≡ false }
@@ -89,7 +89,7 @@ fn named_argument<'a>(alloc: Global, name: &'a str, value: &'a str, help: &'a st
         .help(help)
 }
 
-// One that has to be given.
+// An argument that is required.
 fn wanted_argument<'a>(alloc: Global, name: &'a str, value: &'a str, help: &'a str) -> Arg<'a>
     ensures rule { rule_of result ≡ wanted_rule name.entry.now }
     ensures local { result.global ≡ false }
@@ -155,14 +155,14 @@ fn number_argument<'a>(alloc: Global, name: &'a str, value: &'a str, help: &'a s
 
 // ---- commands
 
-// A command that has nothing yet besides its help.
+// A command that has only its help yet.
 fn command<'a>(alloc: Global, name: &'a str, about: &'a str, more: &'a str) -> Command<'a>
     ensures { app_of result ≡ new_app name.entry.now }
 {
     Command::new(alloc, name).about(about).after_help(more)
 }
 
-// One whose input is standard input, as the usage line shows.
+// A command whose input is standard input, as the usage line shows.
 fn reading_command<'a>(
     alloc: Global,
     name: &'a str,
@@ -192,7 +192,7 @@ fn with_file_and_lab<'a>(alloc: Global, bare: Command<'a>) -> Result<Command<'a>
     with(first, lab_argument(alloc))
 }
 
-// A command with a port, and how many connections are served there.
+// A command with a port, and the number of connections that are served there.
 fn with_port_and_count<'a>(alloc: Global, bare: Command<'a>) -> Result<Command<'a>, AllocError>
     ensures { IfOk result (λ more. app_of more ≡ with_port_and_count (app_of bare.entry)) }
 {
@@ -222,7 +222,7 @@ fn with_old_and_new<'a>(alloc: Global, bare: Command<'a>) -> Result<Command<'a>,
     )
 }
 
-/// `found`, of a laboratory in a file.
+/// Returns the command `found`, which founds a laboratory in a file.
 ///
 /// # Errors
 /// Memory ran out.
@@ -235,7 +235,7 @@ pub fn found_command<'a>(alloc: Global) -> Result<Command<'a>, AllocError>
     with_file_and_lab(alloc, bare)
 }
 
-/// `serve`, of a file at a port, for so many connections.
+/// Returns the command `serve`, which serves a file at a port, for a number of connections.
 ///
 /// # Errors
 /// Memory ran out.
@@ -248,7 +248,8 @@ pub fn serve_command<'a>(alloc: Global) -> Result<Command<'a>, AllocError>
     with_port_and_count(alloc, first)
 }
 
-/// `copy`, of the records of a file's laboratory, from a number to a number.
+/// Returns the command `copy`, which copies the records of a file's laboratory in a range of
+/// numbers.
 ///
 /// # Errors
 /// Memory ran out.
@@ -261,7 +262,7 @@ pub fn copy_command<'a>(alloc: Global) -> Result<Command<'a>, AllocError>
     with_range(alloc, first)
 }
 
-/// `migrate`, of the laboratories of an old file into a new one.
+/// Returns the command `migrate`, which moves the laboratories of an old file into a new one.
 ///
 /// # Errors
 /// Memory ran out.
@@ -273,7 +274,7 @@ pub fn migrate_command<'a>(alloc: Global) -> Result<Command<'a>, AllocError>
     with_old_and_new(alloc, bare)
 }
 
-/// `rehearse`, of a laboratory at a moment.
+/// Returns the command `rehearse`, which rehearses a laboratory at a moment.
 ///
 /// # Errors
 /// Memory ran out.
@@ -287,7 +288,7 @@ pub fn rehearse_command<'a>(alloc: Global) -> Result<Command<'a>, AllocError>
     with(first, moment_argument(alloc))
 }
 
-/// `check`.
+/// Returns the command `check`.
 pub fn check_command<'a>(alloc: Global) -> Command<'a>
     ensures { app_of result ≡ check_app }
 {
@@ -296,7 +297,7 @@ pub fn check_command<'a>(alloc: Global) -> Command<'a>
     reading_command(alloc, "check", about, CHECKING, usage)
 }
 
-/// `replay`.
+/// Returns the command `replay`.
 pub fn replay_command<'a>(alloc: Global) -> Command<'a>
     ensures { app_of result ≡ replay_app }
 {

@@ -1,4 +1,4 @@
-//! Words that ask for no task: what becomes of them.
+//! What is printed for words that name no task.
 
 ghost use Rattle.std.specs.Prelude.{[], ◌∷◌, ◌≡◌, IfOk};
 ghost use Rattle.clap.specs.Words.{HasKind, kind_of};
@@ -13,15 +13,15 @@ use lab_wire_heads::WriteFault;
 use std::alloc::{AllocError, Global};
 use std::io::Write;
 
-/// What is told of a range of records that ends before it begins.
+/// The fault of a range of records that ends before it begins.
 const MISORDERED: &str = "the number of '--from <A>' is above that of '--to <B>'";
 
-/// Tells why the words name no task, and answers the status: 0 for help or the version, which go to
-/// the output, 2 for a fault in the words, and 1 where memory ran out or the text could not be
+/// Prints why the words name no task, and returns the status: 0 for help or the version, which go
+/// to the output; 2 for a fault in the words; and 1 if memory ran out or the text could not be
 /// written.
 ///
 /// # Errors
-/// What gives the status 1 could not be told, as standard error failed.
+/// Standard error failed, so the cause of the status 1 could not be printed.
 pub fn explain<W: Write, E: Write>(
     error: &Error,
     output: &mut W,
@@ -45,19 +45,20 @@ pub fn explain<W: Write, E: Write>(
     Ok(0)
 }
 
-// `copy` under the name that a fault in its words tells.
+// `copy` under the name that is printed in a fault of its words.
 fn named_copy<'a>(alloc: Global) -> Result<Command<'a>, AllocError> {
     copy_command(alloc)?.bin_name("labdesk copy")
 }
 
-// The fault of a range of records that ends before it begins, as clap tells those of a command.
+// The fault of a range of records that ends before it begins, in the form of clap's faults of a
+// command.
 fn misordered_fault(mut command: Command<'_>) -> Result<Error, AllocError>
     ensures { IfOk result (λ error. kind_of error ≡ ValueValidation) }
 {
     command.error(ErrorKind::ValueValidation, MISORDERED)
 }
 
-// That fault of `copy`.
+// The same fault, for `copy`.
 fn order_fault(alloc: Global) -> Result<Error, AllocError>
     ensures { IfOk result (λ error. kind_of error ≡ ValueValidation) }
 {
@@ -65,7 +66,7 @@ fn order_fault(alloc: Global) -> Result<Error, AllocError>
     misordered_fault(copy)
 }
 
-// The refusal of a range whose numbers are out of order, or that memory ran out.
+// The refusal of a range whose numbers are out of order, or the fault that memory ran out.
 fn order_error(alloc: Global) -> Error
     ensures { HasKind (ValueValidation ∷ []) result }
 {
@@ -75,10 +76,10 @@ fn order_error(alloc: Global) -> Error
     }
 }
 
-/// Tells that the range of records of a copy ends before it begins, as a fault in the words.
+/// Prints that the range of records of a copy ends before it begins, as a fault in the words.
 ///
 /// # Errors
-/// Memory ran out, and that could not be told, as standard error failed.
+/// Memory ran out, and standard error failed, so this could not be printed.
 pub fn explain_order<W: Write, E: Write>(
     alloc: Global,
     output: &mut W,

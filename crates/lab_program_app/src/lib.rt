@@ -1,5 +1,5 @@
-//! The words of a command line, as `clap` is told of them, what help says of each, and how a fault in
-//! them is told.
+//! The words of a command line, as they are declared to `clap`, the help of each, and how a fault
+//! in the words is printed.
 #![tactic(auto)]
 
 mod commands;

@@ -1,4 +1,4 @@
-//! Why a check stopped before it could tell what it found.
+//! Why a check stopped before it could print what it found.
 ghost use Rattle.std.specs.Prelude.{◌≡◌};
 ghost use Rattle.lab_program_check.specs.Verdicts.{stop_word, stop_line};
 
@@ -6,14 +6,14 @@ use lab_copy::OutOfMemory;
 use std::fmt;
 use thiserror::Error;
 
-/// Why a check stopped before it could tell what it found. The fault's own text is its word.
+/// Why a check stopped before it could print what it found. A fault is printed as its word.
 #[derive(Clone, Copy, Debug, PartialEq, Eq, Error)]
 pub enum StopFault {
     /// The input could not be read.
     Read,
-    /// The line could not be written whole.
+    /// The whole line could not be written.
     Write,
-    /// There was no memory to go on.
+    /// Memory ran out.
     Memory,
 }
 
@@ -29,7 +29,7 @@ impl From<OutOfMemory> for StopFault {
 }
 
 impl StopFault {
-    /// The word by which the fault is known.
+    /// Returns the word of the fault.
     pub fn word(&self) -> &'static str
         ensures { result.now ≡ stop_word self.now }
     {
@@ -40,7 +40,8 @@ impl StopFault {
         }
     }
 
-    /// The line that tells the fault on standard error, with its line feed. No memory is taken for it.
+    /// Returns the line that is printed for the fault on standard error, with its line feed. Needs
+    /// no memory.
     pub fn line(&self) -> &'static str
         ensures { result.now ≡ stop_line self.now }
     {

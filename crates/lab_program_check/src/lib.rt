@@ -1,4 +1,4 @@
-//! `labdesk check`: what is found of an inspection copy, told in a line.
+//! `labdesk check`: what is found in an inspection copy, printed in a line.
 #![tactic(auto)]
 
 mod faults;

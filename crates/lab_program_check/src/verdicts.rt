@@ -1,4 +1,4 @@
-//! The check of a copy from a reader, and the line that tells what was found.
+//! The check of a copy from a reader, and the line that says what was found.
 ghost use Rattle.std.specs.Prelude.{◌≡◌, ◌≢◌, IfOk, IfErr, IfSome, IsSome};
 ghost use Rattle.lab_copy_rows.specs.Copies.{verdict};
 ghost use Rattle.lab_copy.specs.Checks.{rows_of};
@@ -11,7 +11,7 @@ use lab_wire_heads::{WriteFault, write_reply};
 use std::alloc::Global;
 use std::io::{Read, Write};
 
-/// What was found of a copy: the line that tells it, the status, and the flaw where it has one.
+/// What was found in a copy: the line that is printed, the status, and the flaw if there is one.
 #[derive(Drop)]
 struct Found {
     line: String,
@@ -19,16 +19,16 @@ struct Found {
     flaw: Option<Flaw>,
 }
 
-/// How a check ended: its status, and the flaw that was told.
+/// How a check ended: its status, and the flaw that was printed.
 #[derive(Clone, Copy, Debug, PartialEq, Eq)]
 pub struct Checked {
-    /// The status: 0 for a sound copy, and else 1.
+    /// The status: 0 for a sound copy, otherwise 1.
     pub status: u8,
-    /// The copy's first flaw, where the line told one.
+    /// The copy's first flaw, if the line named one.
     pub flaw: Option<Flaw>,
 }
 
-// The line that tells of a sound copy: how many rows of each kind it has.
+// The line for a sound copy: how many rows of each kind it has.
 fn good_line(alloc: Global, counts: Counts) -> Result<String, OutOfMemory>
     ensures { IfOk result (λ line. line.bytes.items ≡ good_line counts) }
 {
@@ -38,7 +38,7 @@ fn good_line(alloc: Global, counts: Counts) -> Result<String, OutOfMemory>
     Ok(line)
 }
 
-// The line that tells of a flaw: its word, and the row at which it is told.
+// The line for a flaw: its word, and the row at which it was found.
 fn bad_line(alloc: Global, flaw: Flaw) -> Result<String, OutOfMemory>
     ensures { IfOk result (λ line. line.bytes.items ≡ bad_line flaw) }
 {
@@ -50,7 +50,7 @@ fn bad_line(alloc: Global, flaw: Flaw) -> Result<String, OutOfMemory>
     Ok(line)
 }
 
-// What is found of the copy that a reader gives.
+// What is found in the copy from a reader.
 fn look_over<R: Read + Drop>(alloc: Global, input: R) -> Result<Found, StopFault>
     ensures found { IfOk result (λ found. IfSome (R.remaining input) (λ bytes.
         IsFound (verdict (rows_of bytes)) found.line.bytes.items found.status)) }
@@ -75,7 +75,7 @@ fn look_over<R: Read + Drop>(alloc: Global, input: R) -> Result<Found, StopFault
     }
 }
 
-// Checks the copy that the input has, and tells on the output what is found.
+// Checks the copy on the input, and prints on the output what is found.
 fn tell_found<R: Read + Drop, W: Write>(
     alloc: Global,
     input: R,
@@ -96,12 +96,14 @@ fn tell_found<R: Read + Drop, W: Write>(
     }
 }
 
-/// `labdesk check`: checks the inspection copy that the input has, by its rows alone, and tells on the output in a line what is
-/// found: `good` and how many records, versions, entries and signatures it has, or `bad`, the word of its first flaw and the row.
-/// What stops it is told on standard error. Answers the status: 0 for a sound copy, and else 1; and the flaw that was told.
+/// `labdesk check`: checks the inspection copy on the input, by its rows alone, and prints on the
+/// output in a line what is found: `good` and how many records, versions, entries and signatures it
+/// has, or `bad`, the word of its first flaw and the row. What stops the check is printed on
+/// standard error. Returns the status, 0 for a sound copy, otherwise 1, and the flaw that was
+/// printed.
 ///
 /// # Errors
-/// The check stopped, and standard error failed before the whole line was told.
+/// The check stopped, and standard error failed before the whole line was printed.
 pub fn check<R: Read + Drop, W: Write, E: Write>(
     alloc: Global,
     input: R,

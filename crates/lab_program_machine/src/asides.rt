@@ -1,4 +1,4 @@
-//! An old file and its log, copied, so that nothing of them is written when they are read.
+//! Copies an old file and its log, so that neither is written when they are read.
 
 ghost use Rattle.std.specs.Prelude.{IfOk};
 ghost use Rattle.sqlite.specs.Held.{state};
@@ -22,11 +22,12 @@ use std::io::{self, ErrorKind};
 use std::os::fd::AsRawFd;
 use std::os::unix::fs::OpenOptionsExt;
 
-/// What the path of an old file's copy has behind that of the new file, before a number that is drawn.
+/// The text in the path of an old file's copy after the path of the new file, before a random
+/// number.
 const ASIDE: &str = "-migrating-";
 
-/// The first byte at which SQLite locks a file, and how many bytes it locks there (SQLite, 'File Locking
-/// And Concurrency', 3.0; 'Database File Format', 1.3, 'The Lock-Byte Page').
+/// The first byte at which SQLite locks a file, and how many bytes it locks there (SQLite, 'File
+/// Locking And Concurrency', 3.0; 'Database File Format', 1.3, 'The Lock-Byte Page').
 const PENDING_BYTE: u64 = 1 << 30;
 
 const LOCK_BYTES: u64 = 512;
@@ -38,7 +39,7 @@ pub(crate) struct Aside {
     written: Stat,
 }
 
-// Whether the system forbade it to this user, or to everybody.
+// Whether the system forbade the call to this user, or to everybody.
 fn is_forbidden(kind: ErrorKind) -> bool {
     matches!(
         kind,
@@ -47,7 +48,7 @@ fn is_forbidden(kind: ErrorKind) -> bool {
 }
 
 impl<'a, S: Supposed> HostShelf<'a, S> {
-    // Looks at an old file before it is copied. Nothing is made where there is none.
+    // Checks an old file before it is copied. Makes nothing if there is none.
     fn look_at_old(&self, path: &str) -> Result<(), FileFault> {
         match fs::metadata(self.rt, path) {
             Ok(found) if found.is_file() && found.len() > 0 => self.look_inside(path),
@@ -55,9 +56,10 @@ impl<'a, S: Supposed> HostShelf<'a, S> {
         }
     }
 
-    // Holds an old file and its log to the end of the move, so that nobody else writes them meanwhile.
-    // What this user may not write is held so that others may read it alone. If it can't be held at all,
-    // and there is a journal that had to be played back, it is refused.
+    // Holds an old file and its log to the end of the move, so that nobody else writes them
+    // meanwhile. A file that this user may not write is held so that others may only read it. A
+    // file is refused if it can't be held at all, or if there is a journal that must be played
+    // back.
     fn hold_old(&mut self, places: &Places) -> Result<(), FileFault> {
         let had_log = self.stat(places.log.as_str()).is_some();
         match self.held(places) {
@@ -94,8 +96,8 @@ impl<'a, S: Supposed> HostShelf<'a, S> {
         Ok(())
     }
 
-    // Copies a file to a path where nothing is, and answers which file was written. The copy may be read
-    // by its owner alone.
+    // Copies a file to a path where nothing is, and returns which file was written. Only its owner
+    // may read the copy.
     fn copy_file(&self, from: &str, to: &str) -> Result<Stat, FileFault> {
         let mut options = OpenOptions::new();
         options.write(true).create_new(true).mode(0o600);
@@ -129,7 +131,8 @@ impl<'a, S: Supposed> HostShelf<'a, S> {
         }
     }
 
-    // Where the copy of an old file lies: beside the new file, under a name that no other move has.
+    // The place of the copy of an old file: beside the new file, under a name that no other move
+    // has.
     fn aside(&self, alloc: Global, new: &str, word: u64) -> Result<Places, FileFault> {
         match format!(in alloc; "{new}{ASIDE}{word}") {
             Ok(path) => places_of(self.rt, alloc, path.as_str()),
@@ -152,8 +155,8 @@ impl<'a, S: Supposed> HostShelf<'a, S> {
         Ok(Aside { places, written })
     }
 
-    /// Copies the old file at a path, and its log, beside the path of a new one. Both files are held
-    /// from then on.
+    /// Copies the old file at a path, and its log, beside the path of a new one. Both files are
+    /// held from then on.
     pub(crate) fn copy_aside(
         &mut self,
         alloc: Global,
@@ -175,7 +178,8 @@ impl<'a, S: Supposed> HostShelf<'a, S> {
         copied
     }
 
-    /// A connection to the copy of an old file. It is the file that was written.
+    /// Returns a connection to the copy of an old file. The connection is to the file that was
+    /// written.
     pub(crate) fn copy_connected(
         &self,
         alloc: Global,
@@ -202,7 +206,7 @@ impl<'a, S: Supposed> HostShelf<'a, S> {
         let _ = fs::remove_file(self.rt, path);
     }
 
-    /// Takes the paths of a copy away. Who has it open goes on with it.
+    /// Removes the paths of a copy. A program that has the copy open can still use it.
     pub(crate) fn take_away(&self, places: &Places) {
         self.remove(places.file.as_str());
         self.remove(places.log.as_str());

@@ -1,4 +1,4 @@
-//! A file and its log, held: nobody else has them open, and what they show is on the disk.
+//! A file and its log, held: nobody else has them open, and the disk has what they show.
 
 ghost use Rattle.std.specs.Prelude.{◌≡◌, IfOk, IsErrAnd, true, false};
 ghost use Rattle.sqlite_std_file.specs.File.{IsFresh};
@@ -20,7 +20,7 @@ use std::hash::{BuildHasher, RandomState};
 use std::io::{self, ErrorKind};
 use std::os::unix::fs::FileExt;
 
-/// How long a file is that was just made: it has one page. Its first byte is written last.
+/// The length of a file that was just made, which has one page. Its first byte is written last.
 const ONE_PAGE: u64 = 4096;
 
 /// A file and its log, as the store opened them just now. Nobody else has them open.
@@ -31,15 +31,15 @@ pub(crate) struct Held<S: Start> {
     ghost file_is_fresh: { IsFresh false files.db },
 }
 
-/// The bytes of a file of this machine, up to so many.
+/// The bytes of a file of this machine, up to a greatest number.
 #[derive(Drop)]
 struct HostBytes {
     file: File,
     most: usize,
 }
 
-// A contract can't say what a file of this machine holds, so nothing is known of it. Each method makes
-// the calls that its name says (pread(2), pwrite(2), fdatasync(2)).
+// A contract can't say what a file of this machine holds, so nothing is known of it. Each method
+// makes the calls that its name says (pread(2), pwrite(2), fdatasync(2)).
 impl Renewable for HostBytes {
     ghost use Rattle.std.specs.Prelude.{[]};
 
@@ -69,7 +69,7 @@ impl Renewable for HostBytes {
     }
 }
 
-/// What files that can't be held are told as.
+/// Returns the fault for files that can't be held.
 pub(crate) fn fault_of_holding(error: &OpenError) -> FileFault {
     match error {
         OpenError::OutOfMemory => FileFault::Memory,
@@ -79,13 +79,14 @@ pub(crate) fn fault_of_holding(error: &OpenError) -> FileFault {
 }
 
 impl<'a, S: Supposed> HostShelf<'a, S> {
-    /// Holds a file and its log. Those that are missing are made.
+    /// Holds a file and its log. Makes those that are missing.
     pub(crate) fn held(&self, places: &Places) -> Result<Held<S>, OpenError> {
         let files = open(self.rt, places.file.as_str(), self.start.again())?;
         Ok(Held { files })
     }
 
-    // Writes the bytes of the file at a path in place anew, up to so many, and synchronizes it.
+    // Writes the bytes of the file at a path again in place, up to a greatest number, and
+    // synchronizes the file.
     fn renew_bytes(&self, path: &str, most: usize) -> Result<(), FileFault> {
         let mut options = OpenOptions::new();
         options.read(true).write(true);
@@ -99,9 +100,9 @@ impl<'a, S: Supposed> HostShelf<'a, S> {
         }
     }
 
-    /// Puts on the disk what a file and its log show, while they are held: an earlier sync that failed
-    /// may have left bytes that are read and that no disk has. Of the file that is its first byte alone,
-    /// where it was just made, since a commit is in the log until all of it is in the file.
+    /// Puts on the disk what a file and its log show, while they are held: a failed sync may have
+    /// left bytes that are read but that no disk has. For a file that was just made, only its first
+    /// byte is written, since a commit is in the log until all of it is in the file.
     pub(crate) fn renew_both(&self, places: &Places) -> Result<(), FileFault> {
         let file = places.file.as_str();
         if self
@@ -117,7 +118,7 @@ impl<'a, S: Supposed> HostShelf<'a, S> {
     }
 }
 
-// A number for the salts of a log, which nobody can foretell.
+// The options with a number for the salts of a log, which nobody can predict.
 fn options(rt: &HostRuntime) -> Result<Options, FileFault> {
     match RandomState::new(rt) {
         Ok(state) => Ok(Options::new(state.hash_one(&0u8))),
@@ -125,8 +126,8 @@ fn options(rt: &HostRuntime) -> Result<Options, FileFault> {
     }
 }
 
-/// A connection over files that are held. Where the store refuses them, they are handed back, held
-/// still, unless nothing was read of them.
+/// Returns a connection over files that are held. If the store refuses them, they are handed back,
+/// still held, unless nothing was read from them.
 pub(crate) fn connection_over<S: Supposed>(
     rt: &HostRuntime,
     alloc: Global,

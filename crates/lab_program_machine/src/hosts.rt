@@ -15,31 +15,33 @@ use std::fs::{self, File, OpenOptions};
 use std::io::{ErrorKind, IsTerminal, Read, Write};
 use std::os::unix::fs::OpenOptionsExt;
 
-/// The first bytes of a SQLite database (SQLite, 'Database File Format', 1.3.1, 'Magic Header String').
+/// The first bytes of a SQLite database (SQLite, 'Database File Format', 1.3.1, 'Magic Header
+/// String').
 const HEADER: &[u8; 16] = b"SQLite format 3\0";
 
-/// The bytes that a log has at least which holds a commit: its header and that of one frame (SQLite, 'Database File Format', 4.1).
+/// The least number of bytes of a log that holds a commit: its header and the header of one frame
+/// (SQLite, 'Database File Format', 4.1).
 const SHORTEST_LOG: u64 = 56;
 
-/// How many bytes of the stack are taken at the start, so that none is missing once memory is short. A
-/// request takes less.
+/// How many bytes of the stack are taken at the start, so that none are missing when memory is
+/// short. A request takes fewer.
 const STACK: usize = 262_144;
 
-/// What is supposed of files as they are opened: of the bytes that they hold, which no code reads,
-/// and of what a crash may leave of a torn write.
+/// What is supposed of files when they are opened: about the bytes that they hold, which no code
+/// reads, and about what a crash may leave of a torn write.
 pub trait Supposed: Start {
-    /// The same for one opening more.
+    /// Returns the same supposition for one more opening.
     fn again(&self) -> Self;
 }
 
-// Of a torn write any bytes may be left, so each commit is synchronized twice.
+// A torn write may leave any bytes, so each commit is synchronized twice.
 impl Supposed for Wary {
     fn again(&self) -> Wary {
         Wary
     }
 }
 
-/// A new file that is held for a move, and whether it was made for it.
+/// A new file that is held for a move, and whether it was made for the move.
 #[derive(Drop)]
 struct Waiting<S: Start> {
     places: Places,
@@ -47,14 +49,14 @@ struct Waiting<S: Start> {
     is_made: bool,
 }
 
-/// The files of this machine, of which this is supposed. What is proved for each `S` holds of
-/// whatever bytes the files held.
+/// The files of this machine, of which `S` is supposed. What is proved for each `S` holds for all
+/// bytes that the files may hold.
 #[derive(Drop)]
 pub struct HostShelf<'a, S: Start> {
     pub(crate) rt: &'a HostRuntime,
     pub(crate) start: S,
     spot: Option<Spot>,
-    // The log that the last connection made, where there was none.
+    // The log that the last connection made, if there was none.
     own_log: Option<String>,
     connected: Option<Connected>,
     // The old file of a move, and what keeps others from writing it until the move has ended.
@@ -64,8 +66,8 @@ pub struct HostShelf<'a, S: Start> {
     waiting: Option<Waiting<S>>,
 }
 
-// Takes as much of the stack as a request takes at most, by a call that may read and write all of it. In the
-// caller's own frame that much would be taken for good.
+// Takes as much of the stack as a request takes at most, by a call that may read and write all of
+// it. In the caller's own frame that much would be taken for good.
 #[inline(never)]
 fn take_stack(rt: &HostRuntime) {
     let mut room = [0u8; STACK];
@@ -73,7 +75,7 @@ fn take_stack(rt: &HostRuntime) {
 }
 
 impl<'a, S: Supposed> HostShelf<'a, S> {
-    /// The files of the machine of this runtime.
+    /// Returns the files of the machine of this runtime.
     pub fn new(rt: &'a HostRuntime, start: S) -> HostShelf<'a, S> {
         take_stack(rt);
         HostShelf {
@@ -89,14 +91,15 @@ impl<'a, S: Supposed> HostShelf<'a, S> {
         }
     }
 
-    /// What lies at a path, where something does.
+    /// Returns what lies at a path, or `None` if nothing does.
     pub(crate) fn stat(&self, path: &str) -> Option<Stat> {
         Some(Stat::of(&fs::metadata(self.rt, path).ok()?))
     }
 
-    // Looks at a path before a file is opened there, so that what is refused stays as it is. What is
-    // no regular file could be waited at for ever; what is no SQLite database would be written over;
-    // and a log without its file holds what was committed last, which a new file would cut off.
+    // Checks a path before a file is opened there, so that what is refused is unchanged. Opening
+    // something that isn't a regular file could wait for ever; a file that isn't a SQLite database
+    // would be written over; and a log without its file holds what was committed last, which a new
+    // file would cut off.
     fn look(&self, places: &Places) -> Result<(), FileFault> {
         let path = places.file.as_str();
         let length = match fs::metadata(self.rt, path) {
@@ -113,7 +116,8 @@ impl<'a, S: Supposed> HostShelf<'a, S> {
         }
     }
 
-    // Looks at the first bytes of a file. The store looks at the rest, and leaves what isn't its own.
+    // Checks the first bytes of a file. The store checks the rest, and doesn't change what isn't
+    // its own.
     pub(crate) fn look_inside(&self, path: &str) -> Result<(), FileFault> {
         if self.is_unfinished(path)? {
             return Ok(());
@@ -132,8 +136,8 @@ impl<'a, S: Supposed> HostShelf<'a, S> {
         }
     }
 
-    // Whether a file begins with a byte of 0, as one does whose making was cut off: the first byte of
-    // a database is written last, and it is 0 until then.
+    // Whether a file begins with a byte of 0, as a file does whose making was cut off: the first
+    // byte of a database is written last, and is 0 until then.
     fn is_unfinished(&self, path: &str) -> Result<bool, FileFault> {
         let mut first = [1u8];
         let Ok(mut file) = File::open(self.rt, path) else {
@@ -146,8 +150,9 @@ impl<'a, S: Supposed> HostShelf<'a, S> {
         }
     }
 
-    // Prepares a path for a new file. The file and its log are made where they aren't there, and may be
-    // read by their owner alone. What the system refuses here it refuses again where the file is opened.
+    // Prepares a path for a new file. The file and its log are made if they are missing, and only
+    // their owner may read them. What the system refuses here, it refuses again when the file is
+    // opened.
     fn prepare(&self, path: &str, log: &str) -> Result<(), FileFault> {
         if self.has_commits(log) {
             return Err(FileFault::Storage);
@@ -163,12 +168,12 @@ impl<'a, S: Supposed> HostShelf<'a, S> {
         let _ = options.open(self.rt, path);
     }
 
-    // Whether a log is there that may hold a commit.
+    // Returns whether a log exists that may hold a commit.
     pub(crate) fn has_commits(&self, log: &str) -> bool {
         fs::metadata(self.rt, log).is_ok_and(|found| found.len() >= SHORTEST_LOG)
     }
 
-    // The log of a file wants random words.
+    // Returns random words, which the log of a file needs.
     pub(crate) fn draw(&self) -> Result<u64, OpenFault> {
         match SysRng::new(self.rt).try_next_u64() {
             Ok(word) => Ok(word),
@@ -176,7 +181,8 @@ impl<'a, S: Supposed> HostShelf<'a, S> {
         }
     }
 
-    // Notes the log that was made as this file was held: there was none before, and it has no byte.
+    // Notes the log that was made when this file was held: there was none before, and the log is
+    // empty.
     fn note_log(&mut self, alloc: Global, log: &str, had_log: bool) -> Result<(), FileFault> {
         self.own_log = None;
         let is_new = !had_log && fs::metadata(self.rt, log).is_ok_and(|found| found.len() == 0);
@@ -196,7 +202,8 @@ impl<'a, S: Supposed> HostShelf<'a, S> {
         }
     }
 
-    // Holds a file, of which something has been looked at, and puts on the disk what it and its log show.
+    // Holds a file, of which something has been checked, and puts on the disk what the file and its
+    // log show.
     fn held_anew(
         &mut self,
         alloc: Global,
@@ -221,7 +228,7 @@ impl<'a, S: Supposed> HostShelf<'a, S> {
         }
     }
 
-    // Looks at a file, and holds it. What is refused stays as it is.
+    // Checks a file, and holds it. What is refused is unchanged.
     fn looked_at(&mut self, alloc: Global, places: &Places) -> Result<Held<S>, FileFault> {
         let had_log = self.stat(places.log.as_str()).is_some();
         self.look(places)?;
@@ -238,7 +245,7 @@ impl<'a, S: Supposed> HostShelf<'a, S> {
         }
     }
 
-    // The file to be connected to, held. It is noted which one it is.
+    // The file to be connected to, held. The shelf notes which file it is.
     fn file_to_connect(&mut self, alloc: Global, path: &str) -> Result<Held<S>, FileFault> {
         let places = places_of(self.rt, alloc, path)?;
         if self.is_old(&places) {
@@ -255,8 +262,8 @@ impl<'a, S: Supposed> HostShelf<'a, S> {
         Ok(held)
     }
 
-    // Which file and which log lie there, while they are held. How long they are is seen at the first look,
-    // since the opening may make the log shorter.
+    // The file and the log that lie there, while they are held. Their lengths are taken at the
+    // first check, since the opening may make the log shorter.
     fn connected_at(&self, places: Places) -> Option<Connected> {
         let file = self.stat(places.file.as_str())?.of_no_length();
         let log = self.stat(places.log.as_str())?.of_no_length();
@@ -268,8 +275,8 @@ impl<'a, S: Supposed> HostShelf<'a, S> {
         })
     }
 
-    /// Holds the new file of a move, so that no other move goes on in it. What can't be held is refused
-    /// where it is connected to.
+    /// Holds the new file of a move, so that no other move uses it. A file that can't be held is
+    /// refused when it is connected to.
     pub(crate) fn hold_new(&mut self, alloc: Global, path: &str) {
         let Ok(places) = places_of(self.rt, alloc, path) else {
             return;

@@ -1,4 +1,5 @@
-//! The files of laboratories of this machine, its clock, its source of chance and its terminal.
+//! The files of laboratories of this machine, its clock, its source of random words and its
+//! terminal.
 #![tactic(auto)]
 
 mod asides;

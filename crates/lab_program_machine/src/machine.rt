@@ -1,4 +1,4 @@
-//! The clock and the source of chance of this machine, and its terminal.
+//! The clock and the source of random words of this machine, and its terminal.
 
 use lab_forms_texts::Moment;
 use lab_program_outside::{Chance, Clock, DrawFault};
@@ -15,12 +15,12 @@ pub struct SystemClock<'a> {
 }
 
 impl<'a> SystemClock<'a> {
-    /// The clock of the machine of this runtime.
+    /// Returns the clock of the machine of this runtime.
     pub fn new(rt: &'a HostRuntime) -> SystemClock<'a> {
         SystemClock { rt }
     }
 
-    // The whole seconds since 1970, leap seconds left out (POSIX.1, 'seconds since the epoch').
+    // The whole seconds since 1970, without leap seconds (POSIX.1, 'seconds since the epoch').
     fn seconds(&self) -> Option<i64> {
         let now = SystemTime::now(self.rt).ok()?;
         let since = now.duration_since(UNIX_EPOCH).ok()?;
@@ -42,7 +42,7 @@ pub struct SystemChance<'a> {
 }
 
 impl<'a> SystemChance<'a> {
-    /// The source of the machine of this runtime.
+    /// Returns the source of random words of the machine of this runtime.
     pub fn new(rt: &'a HostRuntime) -> SystemChance<'a> {
         SystemChance { rt }
     }
@@ -65,8 +65,8 @@ impl<'a> Chance for SystemChance<'a> {
 /// After how many records the progress of a copy, or of a move, is printed again.
 const RECORDS_BETWEEN: usize = 100;
 
-// Prints on standard error, where that is a terminal, how many of how many records are done. The next such line overwrites
-// this one.
+// Prints on standard error, if it is a terminal, how many of all records are done. The next such
+// line overwrites this line.
 pub(crate) fn print_records(rt: &HostRuntime, done: usize, all: usize) {
     if done % RECORDS_BETWEEN != 0 && done != all {
         return;
@@ -78,14 +78,14 @@ pub(crate) fn print_records(rt: &HostRuntime, done: usize, all: usize) {
     }
 }
 
-/// Tells on standard error how far a copy is, where that is a terminal.
+/// Prints on standard error, if it is a terminal, the progress of a copy.
 #[derive(Drop)]
 pub struct TerminalProgress<'a> {
     rt: &'a HostRuntime,
 }
 
 impl<'a> TerminalProgress<'a> {
-    /// The terminal of this runtime.
+    /// Returns the progress printer for the terminal of this runtime.
     pub fn new(rt: &'a HostRuntime) -> TerminalProgress<'a> {
         TerminalProgress { rt }
     }

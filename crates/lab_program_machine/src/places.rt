@@ -1,4 +1,4 @@
-//! Where a file, its log and its journal lie, whatever links lead there.
+//! The places of a file, its log and its journal, whatever links lead there.
 
 use lab_store_files::FileFault;
 use std::alloc::{AllocError, Global};
@@ -14,7 +14,7 @@ pub(crate) struct Places {
 }
 
 impl Places {
-    // Those of the file at a path, where there is memory for them.
+    // The paths for the file at a path. Fails only if memory runs out.
     fn at(alloc: Global, path: &str) -> Result<Places, AllocError> {
         let file = String::from_str(alloc, path)?;
         let log = path_behind(alloc, path, "-wal")?;
@@ -22,7 +22,7 @@ impl Places {
         Ok(Places { file, log, journal })
     }
 
-    /// Those of the file at a path on which no link lies.
+    /// Returns the paths for the file at a path on which no link lies.
     pub(crate) fn of(alloc: Global, path: &str) -> Result<Places, FileFault> {
         match Places::at(alloc, path) {
             Ok(places) => Ok(places),
@@ -31,17 +31,18 @@ impl Places {
     }
 }
 
-// A path with this behind it.
+// A path followed by this ending.
 fn path_behind(alloc: Global, path: &str, ending: &str) -> Result<String, AllocError> {
     let mut longer = String::from_str(alloc, path)?;
     longer.push_str(ending)?;
     Ok(longer)
 }
 
-/// Where the file at a path lies, whatever links lead there; if there is none, where it would be made.
+/// Returns where the file at a path lies, whatever links lead there; if there is no file, where it
+/// would be made.
 ///
 /// # Errors
-/// A link on the path leads nowhere, its folder isn't there or can't be read, or memory ran out.
+/// A link on the path leads nowhere, its folder doesn't exist or can't be read, or memory ran out.
 pub(crate) fn places_of(rt: &HostRuntime, alloc: Global, path: &str) -> Result<Places, FileFault> {
     match fs::canonicalize(rt, path) {
         Ok(real) => Places::of(alloc, real.as_str()),
@@ -53,7 +54,7 @@ pub(crate) fn places_of(rt: &HostRuntime, alloc: Global, path: &str) -> Result<P
     }
 }
 
-// Where a file would be made at a path, at which there is none.
+// Where a file would be made at a path without one.
 fn places_of_none(rt: &HostRuntime, alloc: Global, path: &str) -> Result<Places, FileFault> {
     if fs::symlink_metadata(rt, path).is_ok() {
         return Err(FileFault::Storage);

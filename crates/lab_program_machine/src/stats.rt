@@ -12,7 +12,7 @@ pub(crate) struct Stat {
 }
 
 impl Stat {
-    /// Of a file that was found.
+    /// Returns the `Stat` of a file that was found.
     pub(crate) fn of(found: &Metadata) -> Stat {
         Stat {
             device: found.dev(),
@@ -21,17 +21,17 @@ impl Stat {
         }
     }
 
-    /// How many bytes it has.
+    /// Returns the number of its bytes.
     pub(crate) fn length(&self) -> u64 {
         self.length
     }
 
-    /// The same file, of which nothing is known of its length.
+    /// Returns the same file, with nothing known about its length.
     pub(crate) fn of_no_length(self) -> Stat {
         Stat { length: 0, ..self }
     }
 
-    /// Whether it is the same file, however long.
+    /// Returns whether it is the same file, of any length.
     pub(crate) fn is_same(&self, other: &Stat) -> bool {
         self.device == other.device && self.number == other.number
     }
@@ -42,8 +42,8 @@ impl Stat {
     }
 }
 
-/// The file that was connected to and its log, as they were when they were looked at last. Neither
-/// becomes shorter while it is connected to.
+/// The file of the connection and its log, as they were when they were last checked. Neither
+/// becomes shorter while the connection lasts.
 #[derive(Drop)]
 pub(crate) struct Connected {
     pub(crate) file: Stat,
@@ -52,7 +52,7 @@ pub(crate) struct Connected {
 }
 
 impl Connected {
-    /// Whether both lie where they lay, and neither was cut. How long they are is noted.
+    /// Returns whether both lie at their paths, and neither was cut. Notes their lengths.
     pub(crate) fn are_there(&mut self, file: Option<Stat>, log: Option<Stat>) -> bool {
         let (Some(file), Some(log)) = (file, log) else {
             return false;
@@ -65,7 +65,7 @@ impl Connected {
         are
     }
 
-    /// Whether one of them lies where it lay, and was cut.
+    /// Returns whether one of them lies at its path, and was cut.
     pub(crate) fn are_cut(&self, file: Option<Stat>, log: Option<Stat>) -> bool {
         file.is_some_and(|now| now.is_same(&self.file) && !now.goes_on(&self.file))
             || log.is_some_and(|now| now.is_same(&self.log) && !now.goes_on(&self.log))

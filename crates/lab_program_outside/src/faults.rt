@@ -15,19 +15,19 @@ use thiserror::Error;
 #[derive(Clone, Copy, Debug, PartialEq, Eq)]
 pub struct ListenFault;
 
-/// Why serving stopped. Its text is its word.
+/// Why serving stopped. A fault is printed as its word.
 #[derive(Clone, Copy, Debug, PartialEq, Eq, Error)]
 pub enum ServerFault {
     /// The clock, the source of random words, the listener or a reader failed.
     Read,
     /// A writer failed, or took no byte.
     Write,
-    /// There was no memory to go on.
+    /// Memory ran out.
     Memory,
 }
 
 impl ServerFault {
-    /// The number by which the fault is known: 90 where memory ran out, none for the others.
+    /// Returns the number of the fault: 90 if memory ran out, `None` for the others.
     pub fn number(&self) -> Option<u32>
         ensures { result ≡ server_fault_number self.now }
     {
@@ -37,7 +37,7 @@ impl ServerFault {
         }
     }
 
-    /// The word by which the fault is known.
+    /// Returns the word of the fault.
     pub fn word(&self) -> &'static str
         ensures { result.now ≡ server_fault_word self.now }
     {
@@ -110,7 +110,7 @@ impl From<AllocError> for ServerFault {
     }
 }
 
-/// The one request of a rehearsal was not served.
+/// For the one request of a rehearsal, which was not served.
 impl From<ConnectionFault> for ServerFault {
     ghost use Rattle.lab_program_outside.specs.Faults.{fault_of_connection};
 
@@ -146,11 +146,11 @@ impl From<io::Error> for ServerFault {
 pub enum ConnectionFault {
     /// The request or the reply was not whole.
     Serving(ServeFault),
-    /// There was no memory for a buffer. Nothing was read or answered.
+    /// Memory ran out for a buffer. Nothing was read or answered.
     Memory,
 }
 
-/// A request was not served whole.
+/// For a request that was not served whole.
 impl From<ServeFault> for ConnectionFault {
     ghost use Rattle.lab_program_outside.specs.declared.faults.ConnectionFault.TheVariants.{Serving};
 
@@ -161,17 +161,17 @@ impl From<ServeFault> for ConnectionFault {
     }
 }
 
-/// Why a rehearsal failed. Its text is its word.
+/// Why a rehearsal failed. A fault is printed as its word.
 #[derive(Clone, Copy, Debug, PartialEq, Eq, Error)]
 pub enum RehearsalFault {
     /// The founding was refused.
     Founding(FoundFault),
-    /// What was to be read or written failed, or memory ran out.
+    /// A read or a write failed, or memory ran out.
     Server(ServerFault),
 }
 
 impl RehearsalFault {
-    /// The word by which the fault is known.
+    /// Returns the word of the fault.
     pub fn word(&self) -> &'static str
         ensures { result.now ≡ rehearsal_fault_word self.now }
     {
@@ -193,7 +193,7 @@ impl fmt::Display for RehearsalFault {
     }
 }
 
-/// A founding founded nothing.
+/// For a founding that founded nothing.
 impl From<FoundFault> for RehearsalFault {
     ghost use Rattle.lab_program_outside.specs.declared.faults.RehearsalFault.TheVariants.{Founding};
 
@@ -204,7 +204,7 @@ impl From<FoundFault> for RehearsalFault {
     }
 }
 
-/// What was to be read or written failed.
+/// For a read or a write that failed.
 impl From<ServerFault> for RehearsalFault {
     ghost use Rattle.lab_program_outside.specs.declared.faults.RehearsalFault.TheVariants.{Server};
 

@@ -1,21 +1,21 @@
-//! What a program is given besides its words and its streams.
+//! What a program gets besides its words and its streams.
 
 use std::alloc::Global;
 
-/// Memory, the network, where files lie, a clock, a source of random words, and who hears how far a
-/// copy is.
+/// Memory, the network, the place of files, a clock, a source of random words, and the receiver of
+/// a copy's progress.
 #[derive(Drop)]
 pub struct Host<'a, N, H, C, X, P> {
-    /// Where memory is taken.
+    /// The source of memory.
     pub alloc: Global,
     /// The network.
     pub net: &'a N,
-    /// Where files of laboratories lie.
+    /// The place of the files of laboratories.
     pub shelf: H,
     /// The clock.
     pub clock: C,
     /// The source of random words.
     pub chance: X,
-    /// Who hears how far a copy is.
+    /// The receiver of a copy's progress.
     pub progress: P,
 }

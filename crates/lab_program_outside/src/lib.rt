@@ -1,6 +1,6 @@
-//! What a program takes from outside, whoever hands it in: the moments of a clock, words of chance,
-//! and the bytes of a reader; a file that is written in place anew; the faults that stop it there, and how a fault is told on standard
-//! error.
+//! What a program takes from outside, whoever passes it in: the moments of a clock, random words,
+//! and the bytes of a reader; a file whose bytes are written again in place; the faults that stop a
+//! program there, and how a fault is printed on standard error.
 #![tactic(auto)]
 
 mod faults;

@@ -1,5 +1,5 @@
-//! What the world outside hands in when a connection is accepted: the moment, and the words of
-//! chance.
+//! What the outside world passes in when a connection is accepted: the moment, and the random
+//! words.
 
 ghost use Rattle.std.specs.Prelude.{ℕ, List, [], ◌∷◌, Option, None, IfOk};
 ghost use Rattle.lab_program_outside.specs.Sources.{Gives};
@@ -12,10 +12,10 @@ pub struct DrawFault;
 
 /// A clock.
 pub trait Clock {
-    /// The moments that it gives from here on, where they are known.
+    /// The moments that the clock returns from here on, if they are known.
     ghost coming: { Self → Option (List ℕ) } = { λ _. None };
 
-    /// The moment that it is.
+    /// Returns the present moment.
     fn moment(&mut self) -> Result<Moment, DrawFault>
         ensures given { IfOk result (λ moment.
             Gives (coming self.old) (coming self.new) (moment ∷ [])) };
@@ -23,19 +23,19 @@ pub trait Clock {
 
 /// A source of random words.
 pub trait Chance {
-    /// The words that it gives from here on, by eights, where they are known.
+    /// The words that the source returns from here on, in groups of eight, if they are known.
     ghost coming: { Self → Option (List (List ℕ)) } = { λ _. None };
 
-    /// Eight words that nobody can foretell.
+    /// Returns eight words that nobody can predict.
     fn words(&mut self) -> Result<[u64; 8], DrawFault>
         ensures given { IfOk result (λ words.
             Gives (coming self.old) (coming self.new) (words ∷ [])) };
 }
 
-/// The tick of a connection: a moment of the clock, and eight words of chance.
+/// Returns the tick of a connection: a moment of the clock, and eight random words.
 ///
 /// # Errors
-/// `DrawFault` where the clock or the source of chance gave none.
+/// `DrawFault` if the clock or the source of random words failed.
 pub fn draw<C: Clock, X: Chance>(clock: &mut C, chance: &mut X) -> Result<Tick, DrawFault>
     ensures moment { IfOk result (λ tick.
         Gives (C.coming clock.old) (C.coming clock.new) (tick.moment ∷ [])) }

@@ -7,10 +7,10 @@ use crate::faults::ServerFault;
 use std::alloc::Global;
 use std::io::Read;
 
-/// All the bytes that a reader gives.
+/// Returns all the bytes of a reader.
 ///
 /// # Errors
-/// `ServerFault` where it can't be read, or where memory runs out.
+/// `ServerFault` if the reader fails, or if memory runs out.
 pub fn read_all<R: Read>(alloc: Global, reader: &mut R) -> Result<Vec<u8>, ServerFault>
     ensures bytes { IfOk result (λ bytes.
         IfSome (R.remaining reader.old) (λ all. bytes.items ≡ all)) }

@@ -1,4 +1,4 @@
-//! A file that is written in place anew, as it was read, so that the disk has what is read.
+//! Writes a file again in place, with the bytes that were read, so that the disk has what is read.
 
 ghost use Rattle.std.specs.Prelude.{◌≡◌, ℕ, List, length, IfOk, OnOk};
 ghost use Rattle.lab_program_outside.specs.Renewing.{AreWritten, HasAt, IsLeft, IsPutAt};
@@ -6,7 +6,7 @@ ghost use Rattle.lab_program_outside.specs.Renewing.{AreWritten, HasAt, IsLeft, 
 use std::io;
 
 /// A file whose bytes can be read, written in place and synchronized. Its disk may have lost what a
-/// sync that failed had: of a byte that this handle hasn't written, a sync says nothing.
+/// failed sync was to write: a sync says nothing about a byte that this handle hasn't written.
 pub trait Renewable {
     /// The bytes that a read returns.
     ghost seen: { Self → List ℕ };
@@ -14,19 +14,19 @@ pub trait Renewable {
     /// Whether this handle has written the byte at a place.
     ghost written: { Self → ℕ → Type 0 };
 
-    /// What a crash may leave of the file.
+    /// What a crash may leave in the file.
     ghost may_leave: { Self → List ℕ → Type 0 };
 
-    /// Whether each call so far did what it answered.
+    /// Whether each call so far did what it returned.
     ghost is_honest: { Self → Type 0 };
 
-    /// How many bytes it has.
+    /// Returns how many bytes the file has.
     fn length(&mut self) -> io::Result<usize>
         ensures length { IfOk result (λ count. is_honest self.new → count ≡ length (seen self.old)) }
         ensures same { is_honest self.new → seen self.new ≡ seen self.old }
         ensures honest { is_honest self.new → is_honest self.old };
 
-    /// Reads the bytes at a place, all that are asked for.
+    /// Reads the bytes at a place, all that are requested.
     fn read(&mut self, at: usize, bytes: &mut [u8]) -> io::Result<()>
         ensures read { OnOk result (is_honest self.new → HasAt at bytes.new (seen self.old)) }
         ensures same { is_honest self.new → seen self.new ≡ seen self.old }
@@ -47,7 +47,7 @@ pub trait Renewable {
         ensures honest { is_honest self.new → is_honest self.old };
 }
 
-// Writes the bytes from a place on anew, as they were read.
+// Writes the bytes from a place on again, as they were read.
 fn renew_part<F: Renewable>(file: &mut F, at: usize, bytes: &mut [u8]) -> io::Result<()>
     ensures same { OnOk result (F.is_honest file.new → F.seen file.new ≡ F.seen file.old) }
     ensures written { OnOk result (AreWritten at (length bytes.old) (F.written file.old) (F.written file.new)) }
@@ -57,14 +57,14 @@ fn renew_part<F: Renewable>(file: &mut F, at: usize, bytes: &mut [u8]) -> io::Re
     file.write(at, bytes)
 }
 
-/// How many bytes are read and written at once.
+/// How many bytes are read and written at a time.
 const PART: usize = 16_384;
 
-/// Writes all bytes of a file in place anew, as they were read, and synchronizes it: a crash then
-/// leaves what is read and nothing else, whatever a sync that failed had lost before.
+/// Writes all bytes of a file again in place, as they were read, and synchronizes it. A crash then
+/// leaves exactly what is read, whatever a failed sync had lost before.
 ///
 /// # Errors
-/// A call failed: what a crash leaves is known no better than before.
+/// A call failed: what a crash leaves is no better known than before.
 pub fn renew<F: Renewable>(file: &mut F) -> io::Result<()>
     ensures same { OnOk result (F.is_honest file.new → F.seen file.new ≡ F.seen file.old) }
     ensures durable { OnOk result (F.is_honest file.new → (left : List ℕ) → F.may_leave file.new left →

@@ -1,4 +1,4 @@
-//! How a fault is told on standard error.
+//! How a fault is printed on standard error.
 
 ghost use Rattle.std.specs.Prelude.{◌≡◌, ℕ, ◌+◌, ◌^◌, ◌<◌, length, take, OnOk, IfErr};
 ghost use Rattle.std.specs.Io.KnownBytes.{Appends};
@@ -7,10 +7,11 @@ ghost use Rattle.lab_program_outside.specs.Faults.{IsTold, told_line};
 use lab_wire_heads::{WriteFault, write_reply};
 use std::io::Write;
 
-/// What stands before the word.
+/// The text before the word.
 const BEFORE: &str = "labdesk: ";
 
-// Writes a text after so many bytes. After a fault it tells how many went out of both.
+// Writes a text after the given number of bytes. After a fault, returns how many bytes of both were
+// written.
 fn tell_after<E: Write>(errors: &mut E, sent: usize, text: &str) -> Result<(), WriteFault>
     requires { sent + length text.now < 2 ^ 64 }
     ensures whole { OnOk result (Appends (E.contents errors.old) (E.contents errors.new) text.now) }
@@ -26,10 +27,10 @@ fn tell_after<E: Write>(errors: &mut E, sent: usize, text: &str) -> Result<(), W
     }
 }
 
-/// Tells the word of a fault, in a line. No memory is taken for it.
+/// Prints the word of a fault, in a line. Needs no memory.
 ///
 /// # Errors
-/// Standard error failed before the whole line was told.
+/// Standard error failed before the whole line was printed.
 pub fn tell<E: Write>(errors: &mut E, word: &str) -> Result<(), WriteFault>
     ensures { IsTold (told_line word.now) result (E.contents errors.old) (E.contents errors.new) }
 {

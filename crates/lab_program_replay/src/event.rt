@@ -14,7 +14,7 @@ use std::alloc::Global;
 use std::io;
 use std::io::{BufRead, Read};
 
-/// The greatest first word, seven below the greatest of all.
+/// The greatest first word, seven below the greatest word.
 const LAST_FIRST_WORD: u64 = u64::MAX - 7;
 
 /// The most bytes of an event.
@@ -24,12 +24,12 @@ const MOST_BYTES: u64 = 1_000_000;
 /// bounded.
 const MOST_LINE: usize = 1_000;
 
-/// What the line of an event says. It isn't printed: tokens are made of its words.
+/// What the line of an event says. It isn't printed, because tokens are made of its words.
 #[derive(Drop)]
 struct Heading {
-    /// The laboratory that is founded; none at a call.
+    /// The laboratory that is founded; `None` for a call.
     founded: Option<LabCode>,
-    /// The moment, and the words of chance.
+    /// The moment, and the random words.
     tick: Tick,
     /// How many bytes follow the line.
     length: usize,
@@ -61,14 +61,14 @@ impl Heading {
     }
 }
 
-// Where such a byte stands first.
+// The place of the first such byte.
 fn place_of(text: &[u8], byte: u8) -> Option<usize>
     ensures { result ≡ position (λ b. b == byte) text.now }
 {
     text.iter().position(|b| *b == byte)
 }
 
-// What stands before the first such byte, and what stands after it.
+// The text before the first such byte, and the text after it.
 fn parts_cut(text: &[u8], byte: u8) -> Option<(&[u8], &[u8])>
     ensures { option_map (λ parts. (parts.0.now, parts.1.now)) result ≡ cut_at byte text.now }
 {
@@ -76,7 +76,7 @@ fn parts_cut(text: &[u8], byte: u8) -> Option<(&[u8], &[u8])>
     Some((&text[..at], &text[at + 1..]))
 }
 
-// The number that decimal digits write, if it is at most so much.
+// The number that decimal digits write, if it isn't above a greatest number.
 fn number(text: &[u8], most: u64) -> Option<u64>
     ensures value { result ≡ number_where (λ n. nat_le n most) text.now }
     ensures within { IfSome result (λ n. n ≤ most) }
@@ -94,7 +94,7 @@ fn number(text: &[u8], most: u64) -> Option<u64>
     (value <= most).then_some(value)
 }
 
-// The moment so many seconds after 1970.
+// The moment this many seconds after 1970.
 fn moment(text: &[u8]) -> Option<Moment>
     ensures { result ≡ number_where is_moment text.now }
 {
@@ -147,7 +147,7 @@ fn heading_numbered(founded: Option<LabCode>, text: &[u8]) -> Option<Heading>
     })
 }
 
-// A founding's line, from the laboratory on.
+// The line of a founding, from the laboratory on.
 #[tactic(auto, unfolding(crate::specs::Event::founding_of))]
 fn heading_of_founding(alloc: Global, text: &[u8]) -> Result<Heading, ReplayFault>
     ensures { Gives heading_said result (founding_of text.now) }
@@ -157,7 +157,7 @@ fn heading_of_founding(alloc: Global, text: &[u8]) -> Result<Heading, ReplayFaul
     heading_numbered(Some(code), text).ok_or(ReplayFault::BadEvent)
 }
 
-// What a line says, its line feed left off.
+// What a line says, without its line feed.
 #[tactic(auto, unfolding(crate::specs::Event::heading_of))]
 fn heading_of_line(alloc: Global, line: &[u8]) -> Result<Heading, ReplayFault>
     ensures { Gives heading_said result (heading_of line.now) }
@@ -172,7 +172,7 @@ fn heading_of_line(alloc: Global, line: &[u8]) -> Result<Heading, ReplayFault>
     }
 }
 
-// Reads until the buffer is full or the input ends, and gives how many bytes were read.
+// Reads until the buffer is full or the input ends, and returns how many bytes were read.
 fn fill<R: Read>(reader: &mut R, buffer: &mut [u8]) -> io::Result<usize>
     ensures within { IfOk result (λ n. n ≤ length buffer.new) }
     ensures taken { IfOk result
@@ -190,7 +190,7 @@ fn fill<R: Read>(reader: &mut R, buffer: &mut [u8]) -> io::Result<usize>
     Ok(filled)
 }
 
-// So many bytes from the front of the input. Where there are fewer, that is no event.
+// The given number of bytes from the front of the input. If there are fewer, they aren't an event.
 fn bytes<R: Read>(alloc: Global, reader: &mut R, count: usize) -> Result<Vec<u8>, ReplayFault>
     ensures taken { IfSome (R.remaining reader.old)
         (λ input. TakesBytes count input (R.remaining reader.new) result) }
@@ -204,7 +204,7 @@ fn bytes<R: Read>(alloc: Global, reader: &mut R, count: usize) -> Result<Vec<u8>
     Ok(bytes)
 }
 
-// Takes the next byte from the input, and `None` at its end.
+// Takes the next byte from the input; `None` at its end.
 fn byte<R: Read>(reader: &mut R) -> Result<Option<u8>, ReplayFault>
     ensures taken { IfSome (R.remaining reader.old)
         (λ input. TakesByte input (R.remaining reader.new) result) }
@@ -217,8 +217,8 @@ fn byte<R: Read>(reader: &mut R) -> Result<Option<u8>, ReplayFault>
     Ok(Some(byte[0]))
 }
 
-// Takes the next line from the input, its line feed left off, and `None` at the input's end. What
-// has no line feed within a line's length is no line, and no more of the input is taken.
+// Takes the next line from the input, without its line feed; `None` at the input's end. A text
+// without a line feed within a line's length isn't a line, and no more of the input is taken.
 fn line<B: BufRead>(alloc: Global, reader: &mut B) -> Result<Option<Vec<u8>>, ReplayFault>
     ensures taken { IfSome (B.remaining reader.old)
         (λ input. TakesLine input (B.remaining reader.new) result) }
@@ -237,10 +237,10 @@ fn line<B: BufRead>(alloc: Global, reader: &mut B) -> Result<Option<Vec<u8>>, Re
     Err(ReplayFault::BadEvent)
 }
 
-/// Takes the next event from the input, and `None` at its end.
+/// Takes the next event from the input. Returns `None` at its end.
 ///
 /// # Errors
-/// What comes next is no event, the input failed, or memory ran out.
+/// What comes next isn't an event, the input failed, or memory ran out.
 pub fn next_event<B: BufRead>(alloc: Global, reader: &mut B) -> Result<Option<Event>, ReplayFault>
     ensures taken { IfSome (B.remaining reader.old)
         (λ input. TakesNext (next_event input) (B.remaining reader.new) result) }

@@ -14,7 +14,7 @@ use std::io::{BufRead, Write};
 /// stand, and their answers were written.
 ///
 /// # Errors
-/// What comes next is no event, the input or the output failed, or memory ran out.
+/// What comes next isn't an event, the input or the output failed, or memory ran out.
 pub fn run_events<S: Keeper + Drop, B: BufRead, W: Write>(
     alloc: Global,
     desk: &mut Desk<S>,
@@ -34,10 +34,10 @@ pub fn run_events<S: Keeper + Drop, B: BufRead, W: Write>(
     Err(ReplayFault::ReadFault)
 }
 
-/// Tells a fault on standard error by its whole line.
+/// Prints the whole line of a fault on standard error.
 ///
 /// # Errors
-/// Standard error failed, and has the first bytes of the line.
+/// Standard error failed after the first bytes of the line.
 pub fn tell<E: Write>(errors: &mut E, fault: ReplayFault) -> Result<(), WriteFault>
     ensures { IsTold fault result (E.contents errors.old) (E.contents errors.new) }
 {

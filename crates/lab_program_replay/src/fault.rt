@@ -7,10 +7,10 @@ use std::alloc::AllocError;
 use std::{fmt, io};
 use thiserror::Error;
 
-/// Why a replay stopped before the end of its input. The fault's own text is its word.
+/// Why a replay stopped before the end of its input. A fault is printed as its word.
 #[derive(Clone, Copy, Debug, PartialEq, Eq, Error)]
 pub enum ReplayFault {
-    /// What comes next in the input is no event.
+    /// What comes next in the input isn't an event.
     BadEvent,
     /// The input could not be read.
     ReadFault,
@@ -18,14 +18,14 @@ pub enum ReplayFault {
     WriteFault,
     /// The laboratories could not be kept.
     Storage,
-    /// There was no memory to go on.
+    /// Memory ran out.
     Memory,
 }
 
 impl ReplayFault {
     ghost use Rattle.lab_program_replay.specs.Fault.{fault_word, fault_line};
 
-    /// The word by which the fault is known.
+    /// Returns the word of the fault.
     pub fn word(&self) -> &'static str
         ensures { result.now ≡ fault_word self.now }
     {
@@ -38,8 +38,8 @@ impl ReplayFault {
         }
     }
 
-    /// The line that tells the fault on standard error, with its line feed. No memory is taken for
-    /// it.
+    /// Returns the line that is printed for the fault on standard error, with its line feed. Needs
+    /// no memory.
     pub fn line(&self) -> &'static str
         ensures { result.now ≡ fault_line self.now }
     {
@@ -64,7 +64,7 @@ impl fmt::Display for ReplayFault {
     }
 }
 
-/// A text was refused as a laboratory's code.
+/// For a text that isn't a laboratory's code.
 impl From<NameFault> for ReplayFault {
     ghost use Rattle.lab_program_replay.specs.Fault.{fault_of_name};
 
@@ -78,7 +78,7 @@ impl From<NameFault> for ReplayFault {
     }
 }
 
-/// There was no memory for a desk.
+/// For a desk for which memory ran out.
 impl From<OutOfMemory> for ReplayFault {
     ghost use Rattle.lab_program_replay.specs.declared.fault.ReplayFault.TheVariants.{Memory};
 
@@ -89,7 +89,7 @@ impl From<OutOfMemory> for ReplayFault {
     }
 }
 
-/// A run of events stopped.
+/// For a run of events that stopped.
 impl From<RunFault> for ReplayFault {
     ghost use Rattle.lab_program_replay.specs.Fault.{fault_of_run};
 
@@ -113,7 +113,7 @@ impl From<AllocError> for ReplayFault {
     }
 }
 
-/// A reader failed.
+/// For a reader that failed.
 impl From<io::Error> for ReplayFault {
     ghost use Rattle.lab_program_replay.specs.Fault.{IsReaderFault};
 

@@ -1,5 +1,5 @@
-//! A replay: the events of an input, read from its lines and run one after the other over a store in
-//! memory, that begins with no laboratory.
+//! A replay: the events of an input, read from its lines and run one after the other over a store
+//! in memory, which begins without laboratories.
 #![tactic(auto)]
 
 mod event;

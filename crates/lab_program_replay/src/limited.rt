@@ -1,4 +1,4 @@
-//! A reader that is not asked forever.
+//! A reader that is asked only a limited number of times.
 ghost use Rattle.std.specs.Prelude.{◌≡◌, ◌<◌, IsErr};
 ghost use Rattle.std.specs.Io.{ReadsAtMost};
 ghost use Rattle.std.specs.Io.KnownBytes.{ReadConsumes};
@@ -11,7 +11,7 @@ use std::marker::Model;
 pub const MOST_ASKS: u64 = 1_000_000_000_000;
 
 /// A reader that is asked for bytes a limited number of times, and then counts as failed. It is
-/// asked again where a signal interrupted it.
+/// asked again if a signal interrupted it.
 #[derive(Drop)]
 pub struct LimitedReader<R> {
     reader: R,
@@ -27,7 +27,7 @@ impl<R> Model for LimitedReader<R> {
 }
 
 impl<R> LimitedReader<R> {
-    /// The reader, which is asked at most `most_asks` times.
+    /// Returns the reader, which is asked at most `most_asks` times.
     pub fn new(reader: R, most_asks: u64) -> LimitedReader<R>
         ensures { result ≡ record { reader = reader; asks_left = most_asks } }
     {
@@ -46,7 +46,7 @@ impl<R: Read> Read for LimitedReader<R> {
         ensures bytes { ReadConsumes (R.remaining self.old.reader) (R.remaining self.new.reader)
             result buffer.new }
 
-        // Each answer costs an ask while one is left, a failed one too, and none is given back.
+        // While asks are left, each answer costs one, also a failed one, and no ask is given back.
         ensures asked { 0 < self.old.asks_left → self.new.asks_left < self.old.asks_left }
         ensures exhausted { self.old.asks_left ≡ 0 → IsErr result × (self.new ≡ self.old) }
     {

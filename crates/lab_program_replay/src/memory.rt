@@ -10,10 +10,10 @@ use lab_store_files::{FileFault, create};
 use sqlite::{Connection, MemStore};
 use std::alloc::Global;
 
-/// A store in memory, with no laboratory.
+/// Returns a store in memory, without laboratories.
 ///
 /// # Errors
-/// The store refused, or memory ran out.
+/// The store failed, or memory ran out.
 pub fn store_in_memory(alloc: Global) -> Result<Store<MemStore>, FileFault>
     ensures nobody { IfOk result (λ store. (code : List ℕ) →
         (store_world over_memory store).meaning code ≡ None) }

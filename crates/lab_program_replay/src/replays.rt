@@ -14,7 +14,7 @@ use sqlite::MemStore;
 use std::alloc::Global;
 use std::io::{BufReader, Read, Write};
 
-// A store in memory, with no laboratory, or why there is none, as a replay tells it.
+// A store in memory, without laboratories, or the fault of a replay if it can't be made.
 fn new_store(alloc: Global) -> Result<Store<MemStore>, ReplayFault>
     ensures nobody { IfOk result (λ store. (code : List ℕ) →
         (store_world over_memory store).meaning code ≡ None) }
@@ -29,10 +29,10 @@ fn new_store(alloc: Global) -> Result<Store<MemStore>, ReplayFault>
     }
 }
 
-// Runs the events of the input over no laboratories.
+// Runs the events of the input, which begins without laboratories.
 //
-// Errors: What comes next is no event, the input or the output failed, the store refused to be made, or
-// memory ran out.
+// Errors: what comes next isn't an event, the input or the output failed, the store could not be
+// made, or memory ran out.
 fn run_input<R: Read + Drop, W: Write>(
     alloc: Global,
     input: R,
@@ -47,12 +47,12 @@ fn run_input<R: Read + Drop, W: Write>(
     run_events(alloc, &mut desk, &mut reader, output)
 }
 
-/// `labdesk replay`: runs the events of the input over no laboratories, in a store in memory, writes
-/// their answers to the output, and tells on standard error why it stopped before the input's end.
-/// Answers the status: 0 for a whole replay, and else 1.
+/// `labdesk replay`: runs the events of the input in a store in memory that begins without
+/// laboratories, writes their answers to the output, and prints on standard error why it stopped if
+/// it stopped before the input's end. Returns the status: 0 for a whole replay, otherwise 1.
 ///
 /// # Errors
-/// The replay stopped, and standard error failed before the whole line was told.
+/// The replay stopped, and standard error failed before the whole line was printed.
 pub fn replay<R: Read + Drop, W: Write, E: Write>(
     alloc: Global,
     input: R,

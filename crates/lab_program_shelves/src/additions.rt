@@ -3,13 +3,13 @@
 use sqlite_schema::schema::Schema;
 use std::io::{self, Write};
 
-/// The tables of a file to which nothing was added (docs/TABLES.md).
+/// The number of tables of a file to which nothing was added (docs/TABLES.md).
 const TABLES: usize = 12;
 
-/// Its indexes: `sessions_of_person`, and those that SQLite makes for UNIQUE.
+/// The number of its indexes: `sessions_of_person`, and those that SQLite makes for UNIQUE.
 const INDEXES: usize = 16;
 
-/// How many things another program added to a file of laboratories. The theorem speaks of a file
+/// How many things another program added to a file of laboratories. The theorem is about a file
 /// without them (docs/TABLES.md, 'What may be added to a file').
 #[derive(Clone, Copy, Debug, PartialEq, Eq)]
 pub struct Additions {
@@ -19,7 +19,7 @@ pub struct Additions {
 }
 
 impl Additions {
-    /// What was added to a file of this schema.
+    /// Counts what was added to a file of this schema.
     pub fn of(schema: &Schema) -> Additions {
         Additions {
             tables: schema.tables.len().saturating_sub(TABLES),
@@ -28,7 +28,7 @@ impl Additions {
         }
     }
 
-    /// Whether nothing was added.
+    /// Returns whether nothing was added.
     pub fn are_none(&self) -> bool {
         self.tables == 0 && self.indexes == 0 && self.others == 0
     }

@@ -1,4 +1,4 @@
-//! Why nothing was begun over a file, and why a founding failed that was.
+//! Why no task was begun over a file, and why a founding that was begun failed.
 
 ghost use Rattle.std.specs.Prelude.{◌≡◌};
 ghost use Rattle.lab_program_shelves.specs.Faults.{open_fault_value, open_fault_word};
@@ -9,20 +9,20 @@ use lab_store_files::FileFault;
 use std::fmt;
 use thiserror::Error;
 
-/// Why a founding failed that was begun: for what a rehearsal fails, which founds too.
+/// Why a founding that was begun failed: for the same reasons as a rehearsal, which founds too.
 pub type FoundingFault = RehearsalFault;
 
-/// Why nothing was begun over a file. Its text is its word.
+/// Why no task was begun over a file. A fault is printed as its word.
 #[derive(Clone, Copy, Debug, PartialEq, Eq, Error)]
 pub enum OpenFault {
-    /// The file was not made, or not opened; or memory ran out.
+    /// The file wasn't made, or wasn't opened; or memory ran out.
     File(FileFault),
     /// The clock or the source of random words failed.
     Drawing,
 }
 
 impl OpenFault {
-    /// The word by which the fault is known.
+    /// Returns the word of the fault.
     pub fn word(&self) -> &'static str
         ensures { result.now ≡ open_fault_word self.now }
     {
@@ -32,7 +32,7 @@ impl OpenFault {
         }
     }
 
-    /// The number of the schema that the file has, where the fault is that it is another one.
+    /// Returns the number of the file's schema, if the fault is that the schema is another one.
     pub fn value(&self) -> Option<u64>
         ensures { result ≡ open_fault_value self.now }
     {
@@ -54,7 +54,7 @@ impl fmt::Display for OpenFault {
     }
 }
 
-/// The file was not made, or not opened.
+/// For a file that wasn't made, or wasn't opened.
 impl From<FileFault> for OpenFault {
     ghost use Rattle.lab_program_shelves.specs.declared.faults.OpenFault.TheVariants.{File};
 

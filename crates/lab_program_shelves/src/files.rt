@@ -1,4 +1,4 @@
-//! A file of laboratories, opened, or made where there is none.
+//! Opens a file of laboratories, or makes one if there is none.
 
 ghost use Rattle.std.specs.Prelude.{◌≡◌, IfOk, IsTrue};
 ghost use Rattle.sqlite.specs.Held.{state};
@@ -13,11 +13,11 @@ use sqlite::{Alter, Connection};
 use sqlite_schema::schema::Schema;
 use std::alloc::Global;
 
-/// A connection to a file of laboratories that is there.
+/// Returns a connection to an existing file of laboratories.
 ///
 /// # Errors
-/// There is none, or none of this schema, the source of random words failed, the store refused, or
-/// memory ran out. The file is as it was, and nothing is left beside it.
+/// There is no file, or it doesn't have this schema, the source of random words failed, the store
+/// failed, or memory ran out. The file is unchanged, and nothing is left beside it.
 pub fn open_file<H: Shelf>(
     alloc: Global,
     shelf: &mut H,
@@ -35,8 +35,8 @@ where
     opened_connection(shelf, conn)
 }
 
-// A connection over which a file of laboratories was opened. If the file is refused, nothing is left beside
-// it: what the connection made is removed before the file is let go of.
+// A connection over which a file of laboratories was opened. If the file is refused, nothing is
+// left beside it: what the connection made is removed before the file is released.
 fn opened_connection<H: Shelf>(
     shelf: &mut H,
     conn: Connection<H::Disk>,
@@ -75,12 +75,12 @@ where
     }
 }
 
-/// A connection to a file of laboratories. The tables are made where there is no file, or one without any
-/// table, such as a making that was stopped leaves.
+/// Returns a connection to a file of laboratories. Makes the tables if there is no file, or if the
+/// file has no table, as after a making that was stopped.
 ///
 /// # Errors
-/// The file is none of this schema, the source of random words failed, the store refused, or memory
-/// ran out.
+/// The file doesn't have this schema, the source of random words failed, the store failed, or
+/// memory ran out.
 pub fn make_file<H: Shelf>(
     alloc: Global,
     shelf: &mut H,
@@ -99,13 +99,13 @@ where
     }
 }
 
-/// A connection for reading to the old file at the path, whose laboratories come into a new file at
-/// another.
+/// Returns a connection for reading to the old file at the path, whose laboratories are moved into
+/// a new file at another path.
 ///
 /// # Errors
-/// There is none, or no database, somebody else holds it, the source of random words failed, the
-/// store refused, or memory ran out. The file is as it was in any case, and nothing is left beside
-/// it.
+/// There is no file, or it isn't a database, another process holds it, the source of random words
+/// failed, the store failed, or memory ran out. The file is unchanged in any case, and nothing is
+/// left beside it.
 pub fn open_old<H: Shelf>(
     alloc: Global,
     shelf: &mut H,
@@ -122,15 +122,15 @@ pub fn open_old<H: Shelf>(
     }
 }
 
-// Whether nothing is in a file of this schema.
+// Whether a file with this schema is empty.
 fn is_blank(schema: &Schema) -> bool
     ensures { IsTrue result → schema.now ≡ no_schema }
 {
     schema.tables.is_empty() && schema.indexes.is_empty() && schema.views.is_empty()
 }
 
-// A connection over which nothing is in the file. Another is let go of, and not closed, so that the
-// file stays as it is.
+// A connection over which the file is empty. If the file isn't empty, the connection is released
+// without being closed, so that the file is unchanged.
 fn blank<H: Shelf>(
     shelf: &mut H,
     conn: Connection<H::Disk>,
@@ -145,12 +145,11 @@ fn blank<H: Shelf>(
     }
 }
 
-/// A connection to a file that is to be filled, in which nothing is. The file is made where there is
-/// none.
+/// Returns a connection to an empty file that is to be filled. Makes the file if there is none.
 ///
 /// # Errors
-/// Something is in the file, the source of random words failed, the store refused, or memory ran
-/// out. A file that was there is as it was, and nothing is left beside it.
+/// The file isn't empty, the source of random words failed, the store failed, or memory ran out. An
+/// existing file is unchanged, and nothing is left beside it.
 pub fn open_new<H: Shelf>(
     alloc: Global,
     shelf: &mut H,

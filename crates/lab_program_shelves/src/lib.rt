@@ -1,6 +1,6 @@
-//! Where files of laboratories lie, and the files, the clock, the chance and the terminal of this
-//! machine; how such a file is opened or made; and why a task over one failed, told on standard
-//! error.
+//! The place of the files of laboratories, and the files, the clock, the source of random words and
+//! the terminal of this machine; how such a file is opened or made; and why a task over a file
+//! failed, printed on standard error.
 #![tactic(auto)]
 
 mod additions;

@@ -1,4 +1,5 @@
-//! Where the files of laboratories lie, and who is advised where a task over one stops.
+//! The place of the files of laboratories, and the advice for a person when a task over a file
+//! stops.
 
 ghost use Rattle.std.specs.Prelude.{IfOk, ℕ, List};
 ghost use Rattle.sqlite_trees.specs.Tree.{Trees};
@@ -13,7 +14,8 @@ use lab_store_files::FileFault;
 use sqlite::{Alter, Connection, Error, FileFrom, FileStore, MemStore, Start};
 use std::alloc::Global;
 
-/// Where files lie, each at a path, and who is advised where a task over one stops.
+/// A place where files lie, each at a path, and the advice for a person when a task over a file
+/// stops.
 pub trait Shelf {
     /// What keeps a file.
     type Disk: Alter + Drop;
@@ -21,30 +23,31 @@ pub trait Shelf {
     /// What the file at a path holds.
     ghost holds: { Self → List ℕ → Trees → Type 0 };
 
-    /// Whether there is a file at the path, and not an empty one, nor one whose making was cut off.
+    /// Returns whether a file exists at the path that isn't empty, and whose making wasn't cut off.
     ///
     /// # Errors
     /// The file couldn't be read.
     fn has(&self, path: &str) -> Result<bool, FileFault>;
 
-    /// A connection to the file at the path, which shows what the file held. The file is made,
-    /// without a table, where there is none or an empty one. What is refused stays as it is.
+    /// Returns a connection to the file at the path, which shows what the file held. Makes the
+    /// file, without a table, if there is none or an empty one. A refused file is unchanged.
     ///
     /// # Errors
-    /// The file is no database, or the old file that was connected to, the source of random words
-    /// failed, the store refused, a log is there without its file, or memory ran out.
+    /// The file isn't a database, or is the old file of a move, or the source of random words
+    /// failed, or the store failed, or a log exists without its file, or memory ran out.
     fn connect(&mut self, alloc: Global, path: &str) -> Result<Connection<Self::Disk>, OpenFault>
         ensures at_rest { IfOk result (λ conn. IsAtRest (state Self.Disk.Store conn)) }
         ensures found { IfOk result (Finds Self.Disk.Store (holds self.old path.now)) };
 
-    /// A connection to the old file at the path, which shows what the file and its log held. A copy
-    /// of both is opened, which lies beside the path of a new file until it is open, and at no path
-    /// from then on. So nothing is written to the old file, and nothing is left beside it. Old and new
-    /// file are held from then on, so that no other program writes the old one or moves into the new one.
+    /// Returns a connection to the old file at the path, which shows what the file and its log
+    /// held. A copy of both is opened. This copy lies beside the path of a new file until it is
+    /// open, and at no path from then on. So nothing is written to the old file, and nothing is
+    /// left beside it. The old and the new file are held from then on, so that no other program
+    /// writes the old file or moves into the new one.
     ///
     /// # Errors
-    /// The file is no database, somebody else holds it, it couldn't be copied, the source of random
-    /// words failed, the store refused, or memory ran out.
+    /// The file isn't a database, another process holds it, it couldn't be copied, the source of
+    /// random words failed, the store failed, or memory ran out.
     fn connect_old(
         &mut self,
         alloc: Global,
@@ -54,46 +57,47 @@ pub trait Shelf {
         ensures at_rest { IfOk result (λ conn. IsAtRest (state Self.Disk.Store conn)) }
         ensures found { IfOk result (Finds Self.Disk.Store (holds self.old path.now)) };
 
-    /// Lets go of the new file that is held for a move which isn't made; if it was made for it, it is
-    /// removed.
+    /// Releases the new file that is held for a move which isn't made. Removes the file if it was
+    /// made for the move.
     fn leave_new(&mut self);
 
-    /// Whether the file that was connected to last still lies at the path, and its log beside it, and
-    /// neither is shorter than it was when this was asked last.
+    /// Returns whether the file of the last connection still lies at the path, with its log beside
+    /// it, and neither is shorter than at the last such check.
     fn is_there(&mut self, path: &str) -> bool;
 
-    /// Whether the file that was connected to last, or its log, lies where it lay and is shorter.
+    /// Returns whether the file of the last connection, or its log, still lies at its path and is
+    /// shorter.
     fn is_cut(&self, path: &str) -> bool;
 
     /// Notes that the connection was closed, which may make the log shorter.
     fn forget(&mut self);
 
-    /// Removes the log that the last connection made beside its file, where there was none before. The
+    /// Removes the log that the last connection made beside its file, if there was none before. The
     /// file was refused, and the connection isn't closed yet.
     fn tidy(&mut self);
 
-    /// Notes bytes that are no founding, for the advice.
+    /// Notes bytes that aren't a founding, for the advice.
     fn note(&mut self, alloc: Global, body: &[u8]);
 
     /// Prints, in a line on standard error, what another program added to the file at the path.
     fn remark(&mut self, path: &str, additions: Additions);
 
-    /// Tells a person at a terminal, in a line, which laboratory is moved, and which it is of how
-    /// many.
+    /// Prints a line for a person at a terminal: which laboratory is being moved, and its number
+    /// among all.
     fn tell_move(&mut self, lab: &str, number: usize, all: usize);
 
-    /// Tells a person at a terminal, in a line that the next one overwrites, how many of how many
-    /// records of the laboratory are moved.
+    /// Prints a line for a person at a terminal, which the next such line overwrites: how many of
+    /// the laboratory's records are moved, and how many records it has.
     fn tell_records(&mut self, done: usize, all: usize);
 
-    /// Advises a person at a terminal, in a line, what to do about the trouble.
+    /// Prints a line for a person at a terminal: what to do about the trouble.
     fn advise(&mut self, trouble: Trouble<'_>);
 }
 
 /// What can be closed.
 pub trait Closing {
-    /// Closes it: what was committed lies in the file alone. Where that fails it lies in the file
-    /// and its log together, and nothing is lost.
+    /// Closes the connection: what was committed then lies in the file alone. If closing fails, the
+    /// file and its log hold it together, and nothing is lost.
     fn close_whole(self) -> Result<(), Error>;
 }
 

@@ -1,4 +1,4 @@
-//! How it is told on standard error why a task stopped.
+//! How it is printed on standard error why a task stopped.
 
 ghost use Rattle.std.specs.Prelude.{Some};
 ghost use Rattle.lab_program_shelves.specs.Faults.{Declines, TellsValued, TellsWord};
@@ -12,11 +12,11 @@ use lab_wire_heads::WriteFault;
 use std::alloc::Global;
 use std::io::Write;
 
-/// Tells the word of a fault on standard error, advises a person what to do, and answers the
+/// Prints the word of a fault on standard error, advises a person what to do, and returns the
 /// status 1.
 ///
 /// # Errors
-/// Standard error failed before the whole line was told.
+/// Standard error failed before the whole line was printed.
 pub fn decline<H: Shelf, E: Write>(
     shelf: &mut H,
     errors: &mut E,
@@ -31,7 +31,7 @@ pub fn decline<H: Shelf, E: Write>(
     Ok(1)
 }
 
-// Tells a word and a value, or, where there is no memory for the line, that it ran out.
+// Prints a word and a value, or that memory ran out if there is no memory for the line.
 fn decline_valued<H: Shelf, E: Write>(
     alloc: Global,
     shelf: &mut H,
@@ -49,11 +49,11 @@ fn decline_valued<H: Shelf, E: Write>(
     }
 }
 
-/// Tells on standard error why nothing was begun over a file, advises a person what to do about the
-/// trouble, and answers the status 1.
+/// Prints on standard error why no task was begun over a file, advises a person what to do about
+/// the trouble, and returns the status 1.
 ///
 /// # Errors
-/// Standard error failed before the whole line was told.
+/// Standard error failed before the whole line was printed.
 pub fn decline_by<H: Shelf, E: Write>(
     alloc: Global,
     shelf: &mut H,
@@ -69,11 +69,11 @@ pub fn decline_by<H: Shelf, E: Write>(
     }
 }
 
-/// Tells on standard error why nothing was begun over the file at the path, advises a person what
-/// to do, and answers the status 1.
+/// Prints on standard error why no task was begun over the file at the path, advises a person what
+/// to do, and returns the status 1.
 ///
 /// # Errors
-/// Standard error failed before the whole line was told.
+/// Standard error failed before the whole line was printed.
 pub fn decline_to_open<H: Shelf, E: Write>(
     alloc: Global,
     shelf: &mut H,

@@ -1,37 +1,38 @@
-//! What stopped a task, for whoever is advised what to do.
+//! What stopped a task, for the advice to a person.
 
 use crate::faults::{FoundingFault, OpenFault};
 use lab_records_walks::CopyOutFault;
 use lab_store_files::FileFault;
 
-/// What stopped a task, with what its words said.
+/// What stopped a task, with the paths and codes that its words named.
 #[derive(Clone, Copy, Debug, PartialEq, Eq)]
 pub enum Trouble<'a> {
-    /// Nothing was begun over the file at the path.
+    /// No task was begun over the file at the path.
     Opening(&'a str, OpenFault),
-    /// In the file at the path no laboratory was founded, or that was not printed.
+    /// No laboratory was founded in the file at the path, or the founding could not be printed.
     Founding(&'a str, FoundingFault),
-    /// Of the file at the path no copy went out whole.
+    /// No whole copy of the file at the path was written.
     Copying(&'a str, CopyOutFault),
-    /// The old file at the first path was not opened, to move it to the second.
+    /// The old file at the first path wasn't opened to be moved to the second path.
     Old(&'a str, &'a str, OpenFault),
-    /// The new file at the path was not opened.
+    /// The new file at the path wasn't opened.
     New(&'a str, OpenFault),
-    /// Not all of the old file at the first path came into the new one at the second.
+    /// Not everything in the old file at the first path was moved to the new file at the second
+    /// path.
     Moving(&'a str, &'a str, FileFault),
-    /// In the old file at the path a laboratory of this code isn't sound, so the new one at the last
-    /// has a part alone.
+    /// In the old file at the first path, the laboratory with this code isn't sound, so the new
+    /// file at the last path holds only a part.
     Unsound(&'a str, &'a str, &'a str),
     /// The port can't be listened at.
     AtPort(u16),
-    /// The text is no code of a laboratory.
+    /// The text isn't a code of a laboratory.
     OfCode(&'a str),
     /// Nothing stopped: a founding is read from standard input, which may be the terminal.
     FoundingAwaited,
-    /// A copy is.
+    /// Nothing stopped: a copy is read from standard input, which may be the terminal.
     CopyAwaited,
-    /// Events are.
+    /// Nothing stopped: events are read from standard input, which may be the terminal.
     EventsAwaited,
-    /// The copy on standard input has this flaw, at this row where it is at one.
+    /// The copy on standard input has this flaw, and at this row if the flaw has one.
     Flawed(&'a str, Option<u64>),
 }

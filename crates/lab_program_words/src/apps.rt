@@ -1,4 +1,4 @@
-//! The commands of `labdesk` together, as `clap` is told of them, its version, and what help says of all.
+//! All commands of `labdesk`, as they are declared to `clap`, its version, and its help.
 
 ghost use Rattle.std.specs.Prelude.{◌≡◌, IfOk, true};
 ghost use Rattle.clap.specs.Words.{app_of, with_subcommand};
@@ -14,13 +14,13 @@ use std::alloc::{AllocError, Global};
 /// The version of the program, and the kit that its source is for, as `rt version` names it.
 const VERSION: &str = "0.6.0\nfor rattle-kit-13f logic dac8208d650f15bf";
 
-/// What help says of all commands.
+/// The help of all commands together.
 const COMMANDS: &str = "What goes in and comes out is described in docs/FORMATS.md. An example:
 
     labdesk found --file laboratories --lab aqua < examples/founding.json
     labdesk serve --file laboratories --port 8080";
 
-// What help and `--version` say of a command, and that it wants a subcommand.
+// A command with the texts of help and `--version`, which requires a subcommand.
 fn explained_command<'a>(command: Command<'a>) -> Command<'a>
     ensures { app_of result ≡ told_app (app_of command.entry) }
 {
@@ -92,7 +92,7 @@ fn with_rehearse<'a>(alloc: Global, bare: Command<'a>) -> Result<Command<'a>, Al
     with(bare, rehearse)
 }
 
-// A command with the subcommands of a file.
+// A command with the subcommands that have a file.
 fn with_files<'a>(alloc: Global, bare: Command<'a>) -> Result<Command<'a>, AllocError>
     ensures { IfOk result (λ more. app_of more ≡ with_files (app_of bare.entry)) }
 {
@@ -110,7 +110,7 @@ fn with_plain<'a>(alloc: Global, bare: Command<'a>) -> Result<Command<'a>, Alloc
     with(first, replay_command(alloc))
 }
 
-// A command with the subcommands of no file.
+// A command with the subcommands that have no file.
 fn with_streams<'a>(alloc: Global, bare: Command<'a>) -> Result<Command<'a>, AllocError>
     ensures { IfOk result (λ more. app_of more ≡ with_streams (app_of bare.entry)) }
 {
@@ -118,7 +118,7 @@ fn with_streams<'a>(alloc: Global, bare: Command<'a>) -> Result<Command<'a>, All
     with_rehearse(alloc, first)
 }
 
-/// `labdesk` with its subcommands.
+/// Returns `labdesk` with its subcommands.
 ///
 /// # Errors
 /// Memory ran out.

@@ -1,5 +1,5 @@
-//! `labdesk` with all its commands, as `clap` is told of it; which words it takes, and what they ask for: a task, with what it
-//! is given.
+//! `labdesk` with all its commands, as they are declared to `clap`; which words it accepts, and
+//! what they ask for: a task, with its arguments.
 #![tactic(auto)]
 
 mod apps;

@@ -1,4 +1,4 @@
-//! What the words of a command line ask for: a task, with what it is given.
+//! What the words of a command line ask for: a task, with its arguments.
 
 ghost use Rattle.std.specs.Prelude.{◌≡◌, map, IfOk, codes};
 ghost use Rattle.clap.specs.Words.{FailsBy, fault_of, found_of, rows_of as rows_found, subcommand_of, subcommand_rows_of};
@@ -13,7 +13,7 @@ use std::convert::AsStr;
 /// What the words of a command line ask for.
 #[derive(Clone, Copy, Debug, PartialEq, Eq)]
 pub enum Task<'a> {
-    /// Found a laboratory in a file, from the body of standard input.
+    /// Found a laboratory in a file, from the body on standard input.
     Found {
         /// The path of the file.
         file: &'a str,
@@ -24,7 +24,7 @@ pub enum Task<'a> {
     Serve {
         /// The path of the file.
         file: &'a str,
-        /// The port; 0 is any that is free.
+        /// The port; 0 stands for any free port.
         port: u16,
         /// How many connections are served.
         count: u32,
@@ -47,11 +47,11 @@ pub enum Task<'a> {
         /// The path of the new file.
         new: &'a str,
     },
-    /// Check the inspection copy of standard input.
+    /// Check the inspection copy on standard input.
     Check,
-    /// Run the events of standard input.
+    /// Run the events on standard input.
     Replay,
-    /// Found a laboratory from the body of standard input, and ask for its card over a socket.
+    /// Found a laboratory from the body on standard input, and ask for its card over a socket.
     Rehearse {
         /// The text that is to be its code.
         lab: &'a str,
@@ -60,8 +60,8 @@ pub enum Task<'a> {
     },
 }
 
-// ---- what is given: clap refuses words that leave out what has to be given, or that give a number
-// that is none or out of its range; then an empty text, and 0 or no moment, stand here
+// ---- values: clap has already refused words without a required value, or with a number that is
+// malformed or out of its range, so the defaults here (an empty text, 0, no moment) are never used
 
 // A text.
 fn text_given<'a>(given: &ArgMatches<'a>, name: &str) -> &'a str
@@ -93,7 +93,7 @@ fn seconds_given<'a>(given: &ArgMatches<'a>) -> i64
 
 // ---- which task
 
-// The founding that these matches ask for.
+// The founding that the words ask for.
 fn founding<'a>(given: &ArgMatches<'a>) -> Task<'a>
     ensures errand { errand_of result ≡ founding }
     ensures given { IsGiven (rows_found (found_of given.now)) result }
@@ -104,7 +104,7 @@ fn founding<'a>(given: &ArgMatches<'a>) -> Task<'a>
     }
 }
 
-// The server that they ask for.
+// The server that the words ask for.
 fn serving<'a>(given: &ArgMatches<'a>) -> Task<'a>
     ensures errand { errand_of result ≡ serving }
     ensures given { IsGiven (rows_found (found_of given.now)) result }
@@ -116,7 +116,7 @@ fn serving<'a>(given: &ArgMatches<'a>) -> Task<'a>
     }
 }
 
-// The copy that they ask for.
+// The copy that the words ask for.
 fn copying<'a>(given: &ArgMatches<'a>) -> Task<'a>
     ensures errand { errand_of result ≡ copying }
     ensures given { IsGiven (rows_found (found_of given.now)) result }
@@ -129,7 +129,7 @@ fn copying<'a>(given: &ArgMatches<'a>) -> Task<'a>
     }
 }
 
-// The move that they ask for.
+// The move that the words ask for.
 fn migrating<'a>(given: &ArgMatches<'a>) -> Task<'a>
     ensures errand { errand_of result ≡ migrating }
     ensures given { IsGiven (rows_found (found_of given.now)) result }
@@ -140,7 +140,7 @@ fn migrating<'a>(given: &ArgMatches<'a>) -> Task<'a>
     }
 }
 
-// The rehearsal that they ask for.
+// The rehearsal that the words ask for.
 fn rehearsing<'a>(given: &ArgMatches<'a>) -> Task<'a>
     ensures errand { errand_of result ≡ rehearsing }
     ensures given { IsGiven (rows_found (found_of given.now)) result }
@@ -151,7 +151,7 @@ fn rehearsing<'a>(given: &ArgMatches<'a>) -> Task<'a>
     }
 }
 
-// The task of a subcommand and its matches.
+// The task of a subcommand and its arguments.
 fn task_named<'a>(name: &str, given: &ArgMatches<'a>) -> Task<'a>
     ensures errand { errand_of result ≡ errand_called name.now }
     ensures given { IsGiven (rows_found (found_of given.now)) result }
@@ -177,7 +177,7 @@ fn task_named<'a>(name: &str, given: &ArgMatches<'a>) -> Task<'a>
     Task::Replay
 }
 
-// The task that matches ask for.
+// The task that the words ask for.
 fn task_among<'a>(matches: &ArgMatches<'a>) -> Task<'a>
     ensures errand { errand_of result ≡ errand_named (subcommand_rows_of matches.now) }
     ensures given { IsGivenIn (subcommand_rows_of matches.now) result }
@@ -188,10 +188,10 @@ fn task_among<'a>(matches: &ArgMatches<'a>) -> Task<'a>
     }
 }
 
-/// The task that the words name, the first of them the program's own.
+/// Returns the task that the words name. The first word is the program's own name.
 ///
 /// # Errors
-/// The words name none, or ask for help or the version, or memory ran out.
+/// The words name no task, or ask for help or the version, or memory ran out.
 pub fn task_of<'a, S: AsStr>(alloc: Global, words: &'a [S]) -> Result<Task<'a>, Error>
     ensures fault { FailsBy (fault_of labdesk_app (map S.text words.entry.now)) result }
     ensures errand { IfOk result (λ task.

@@ -1,4 +1,4 @@
-//! All changes of a request, by one commit.
+//! Makes all changes of a request in one commit.
 
 ghost use Rattle.std.specs.Prelude.{◌≡◌, [], IsTrue, OnOk};
 ghost use Rattle.sqlite.specs.Held.{state};
@@ -64,12 +64,13 @@ fn commit_all<S: Alter>(
     tx.commit()
 }
 
-/// Makes the changes of the laboratory of the code by one commit, all of them or none; by none where there is no change. The
-/// laboratory's row isn't looked up where it is the one that was counted.
+/// Makes the changes of the laboratory with the code in one commit, all of them or none. If there
+/// are no changes, nothing is committed. The laboratory's row isn't looked up if it is the one that
+/// was counted.
 ///
 /// # Errors
-/// No laboratory of the code, or none of what a change names; a refusal of the store; or out of memory. The rows are
-/// then as before.
+/// No laboratory has the code, a change names something that doesn't exist, the store failed, or
+/// memory ran out. The rows are then as before.
 pub fn apply<S: Alter>(
     alloc: Global,
     tables: &mut Tables<S>,

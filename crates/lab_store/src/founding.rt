@@ -1,4 +1,4 @@
-//! A laboratory that is founded, placed by one commit.
+//! Adds a laboratory that is founded, in one commit.
 
 ghost use Rattle.std.specs.Prelude.{◌≡◌, Err, IsTrue};
 ghost use Rattle.sqlite.specs.Held.{state};
@@ -15,13 +15,13 @@ use lab_store_write_changes::{is_asked, laboratory};
 use sqlite::Alter;
 use std::alloc::Global;
 
-/// Places the newborn laboratory by one commit: its row, its founders in the order of their codes, and the first row of its
-/// trail; all of them, or none.
+/// Adds the newborn laboratory in one commit: its row, its founders in the order of their codes,
+/// and the first row of its trail; all of them, or none.
 ///
 /// # Errors
-/// A laboratory of the code is there; a refusal of the store, also of two founders of one code; or out of memory. The
-/// rows are then as before. A founder for whom a one-time word was asked is refused too: nobody can have asked before the
-/// founding, so this never comes.
+/// A laboratory with the code exists, the store failed, two founders have the same code (which the
+/// store refuses), or memory ran out. The rows are then as before. A founder for whom a one-time
+/// word was asked is refused too: nobody can have asked before the founding, so this never happens.
 pub fn found<S: Alter>(
     alloc: Global,
     tables: &mut Tables<S>,

@@ -1,4 +1,4 @@
-//! How the rows of records go out of the store, for an inspection copy.
+//! The writing of the rows of records from the store, for an inspection copy.
 
 use crate::store::Store;
 use lab_copy_rows::CopyOut;
@@ -8,9 +8,9 @@ use sqlite::Alter;
 use std::alloc::Global;
 use std::io::Write;
 
-/// A record goes out of a store one version at a time: the entries and signatures of that version
-/// are read, their rows go out, and only its digest is kept for the next one. The laboratory's row
-/// is read once, and a form where it isn't that of the record before.
+/// Writes a record from a store one version at a time: the entries and signatures of that version
+/// are read, their rows are written, and only its digest is kept for the next version. The
+/// laboratory's row is read once, and a form unless it is the form of the record before.
 #[derive(Clone, Copy, Debug, PartialEq, Eq)]
 pub struct OneVersionAtATime;
 

@@ -1,4 +1,4 @@
-//! A transaction under way.
+//! A running transaction.
 
 ghost use Rattle.sqlite.specs.Held.{state as state_held};
 
@@ -6,7 +6,7 @@ use lab_store_write::Writable;
 use sqlite::types::ValueRef;
 use sqlite::{Alter, Error, Row, Transaction};
 
-/// A transaction under way, which its owner commits once it is let go of.
+/// A running transaction, lent by its owner, who commits it afterwards.
 pub struct Inside<'tx, 'conn, S: Alter> {
     /// The transaction.
     pub tx: &'tx mut Transaction<'conn, S>,

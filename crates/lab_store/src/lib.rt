@@ -1,5 +1,6 @@
-//! Laboratories in the tables of a SQLite file, as a keeper: each call of the desk is one read, or one
-//! commit, all of it or none (21 CFR 11.10(c) and (e); ISO/IEC 17025:2017, 7.11.3 and 8.4.2).
+//! Laboratories in the tables of a SQLite file, as a keeper: each call of the desk is one read, or
+//! one commit that is made whole or not at all (21 CFR 11.10(c) and (e); ISO/IEC 17025:2017, 7.11.3
+//! and 8.4.2).
 #![tactic(auto)]
 
 mod applying;

@@ -1,4 +1,4 @@
-//! Whether a laboratory of a code is there, and the placing of one by a commit.
+//! Finds out whether a laboratory with a code exists, and adds one in a commit.
 
 ghost use Rattle.std.specs.Prelude.{◌≡◌, ◌≢◌, IfOk, IfErr, IsTrue, OnOk, find, is_some, slice_get};
 ghost use Rattle.sqlite.specs.Held.{state};
@@ -19,7 +19,7 @@ use lab_store_read_records::lab_rows;
 use lab_store_write_changes::add_rows;
 use sqlite::{Alter, Connection, Error, Row, Transaction};
 
-// What a fault of the store is told as.
+// The placing fault for a fault of the store.
 fn placing_fault(fault: ReadFault) -> PlacingFault
     ensures { result ≢ LabExists }
 {
@@ -36,7 +36,7 @@ fn has_row(rows: &[Row]) -> bool
     rows.first().is_some()
 }
 
-/// Whether a laboratory of the code is there.
+/// Returns whether a laboratory with the code exists.
 pub(crate) fn is_there<D: Readable>(conn: &mut D, code: &LabCode) -> Result<bool, PlacingFault>
     ensures reads { Reads (λ t there. there ≡ is_some (find (has_code code.now) t.labs))
         (D.state conn.old) (D.state conn.new) result }
@@ -79,7 +79,7 @@ fn commit_rows<S: Alter>(conn: &mut Connection<S>, lab: &Lab) -> Result<(), Erro
     tx.commit()
 }
 
-/// Adds the rows of the laboratory by one commit.
+/// Adds the rows of the laboratory in one commit.
 pub(crate) fn place<S: Alter>(conn: &mut Connection<S>, lab: &Lab) -> Result<(), PlacingFault>
     requires at_rest { IsAtRest (state S.Store conn.old) }
     ensures ends { Ends (AddsRows lab.now) result

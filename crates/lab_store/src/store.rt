@@ -30,11 +30,12 @@ use std::alloc::Global;
 use std::io::Write;
 use std::marker::Model;
 
-/// The laboratories of a file, over a connection at rest that was created or opened by `lab_store_files`.
+/// The laboratories of a file, over a connection at rest that was created or opened by
+/// `lab_store_files`.
 ///
 /// The id of the laboratory's row that was read last, and the number of its persons, are kept until
-/// a request changes something: a commit doesn't look the row up again, and a reading doesn't count
-/// again. Nobody else writes to the file.
+/// a request changes something: so a commit doesn't look the row up again, and a reading doesn't
+/// count again. Nobody else writes to the file.
 pub struct Store<S: Alter> {
     tables: Tables<S>,
     counted: Option<Counted>,
@@ -66,7 +67,7 @@ impl<S: Alter> Model for Store<S> {
 }
 
 impl<S: Alter> Store<S> {
-    /// The keeper over a connection.
+    /// Returns the keeper over a connection.
     pub fn new(alloc: Global, conn: Connection<S>) -> Store<S>
         requires at_rest { IsAtRest (state S.Store conn) }
         ensures { result ≡ conn }
@@ -78,7 +79,7 @@ impl<S: Alter> Store<S> {
         }
     }
 
-    /// The connection, at rest.
+    /// Returns the connection, at rest.
     pub fn into_connection(self) -> Connection<S>
         ensures same { result ≡ self }
         ensures at_rest { IsAtRest (state S.Store result) }
@@ -91,10 +92,11 @@ impl<S: Alter> Store<S> {
         conn
     }
 
-    /// The part of a laboratory that is needed, or none where there is no laboratory of the code.
+    /// Returns the part of a laboratory that a command needs, or `None` if no laboratory has the
+    /// code.
     ///
     /// # Errors
-    /// The store refused, a row is none that this program writes, or memory ran out.
+    /// The store failed, a row isn't one that this program could have written, or memory ran out.
     pub fn part(&mut self, code: &LabCode, need: &Need) -> Result<Option<Slice>, KeeperFault>
         ensures reads { Reads (λ t found. found ≡ part_of need.now (meaning t code.now))
             (state S.Store self.old) (state S.Store self.new) result }
@@ -104,12 +106,12 @@ impl<S: Alter> Store<S> {
         load(self.alloc, &mut self.tables, &mut self.counted, code, need)
     }
 
-    /// Writes the rows of the records from a number to a last one into a copy on its way out, one
-    /// version at a time, and tells the progress after each number.
+    /// Writes the rows of the records from a number to a last one into a copy, one version at a
+    /// time, and reports the progress after each number.
     ///
     /// # Errors
-    /// The store's refusal, that memory ran out, and a write that failed or took no byte. The front
-    /// of the rows' text went out.
+    /// The store failed, memory ran out, or a write failed or took no byte. The front of the rows'
+    /// text was written.
     pub fn give_records<W: Write, P: Progress>(
         &mut self,
         alloc: Global,
@@ -151,7 +153,7 @@ impl<S: Alter> Store<S> {
     }
 }
 
-// What is kept of what was counted: all of it where nothing is changed, and else nothing.
+// What is kept of the counts: everything if nothing is changed, and otherwise nothing.
 fn counted_after(counted: Option<Counted>, changes: &Series<Change>) -> Option<Counted>
     ensures { ((changes.now ≡ []) × (result ≡ counted)) ⊎ (result ≡ None) }
 {

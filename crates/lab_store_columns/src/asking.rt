@@ -1,4 +1,4 @@
-//! Queries, by what they ask with.
+//! Queries, by the kinds of their parameters.
 
 ghost use Rattle.std.specs.Prelude.{[], ◌∷◌, pos};
 ghost use Rattle.sqlite_value.specs.declared.value.Value.TheVariants.{Int, Text};
@@ -11,7 +11,7 @@ use sqlite::{Row, params};
 /// The rows of a query with a text.
 ///
 /// # Errors
-/// The store refused, or memory ran out.
+/// The store failed, or memory ran out.
 pub fn rows_by_text<D: Readable>(
     conn: &mut D,
     sql: &str,
@@ -25,7 +25,7 @@ pub fn rows_by_text<D: Readable>(
 /// The rows of a query with an id.
 ///
 /// # Errors
-/// The store refused, or memory ran out.
+/// The store failed, or memory ran out.
 pub fn rows_by_one<D: Readable>(conn: &mut D, sql: &str, first: i64) -> Result<Vec<Row>, ReadFault>
     ensures { Asks sql.now (Int first ∷ []) (D.state conn.old) (D.state conn.new) result }
 {
@@ -35,7 +35,7 @@ pub fn rows_by_one<D: Readable>(conn: &mut D, sql: &str, first: i64) -> Result<V
 /// The rows of a query with an id and a text.
 ///
 /// # Errors
-/// The store refused, or memory ran out.
+/// The store failed, or memory ran out.
 pub fn rows_by_code<D: Readable>(
     conn: &mut D,
     sql: &str,
@@ -51,7 +51,7 @@ pub fn rows_by_code<D: Readable>(
 /// The rows of a query with an id and two numbers.
 ///
 /// # Errors
-/// The store refused, or memory ran out.
+/// The store failed, or memory ran out.
 pub fn rows_by_range<D: Readable>(
     conn: &mut D,
     sql: &str,

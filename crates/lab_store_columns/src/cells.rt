@@ -1,5 +1,5 @@
-//! One column of a row, as the type that stands in it. What is none of that type is a fault of the store, and nothing else is;
-//! memory runs out for texts alone.
+//! One column of a row, read as its type. The only fault of the store is a value of another type;
+//! memory can run out only for texts.
 
 ghost use Rattle.std.specs.Prelude.{◌≡◌, ◌&&◌, IfOk, IfErr, IsTrue, slice_get};
 ghost use Rattle.std.specs.Str.{is_utf8};
@@ -20,10 +20,10 @@ use sqlite::Row;
 use sqlite::types::ValueRef;
 use std::alloc::Global;
 
-/// What stands there.
+/// Returns the value of a column.
 ///
 /// # Errors
-/// The row has no such column.
+/// The row doesn't have the column.
 pub fn cell_of(row: &Row, at: usize) -> Result<ValueRef<'_>, ReadFault>
     ensures value { IfOk result (λ value. owned value ≡ column row.now at) }
     ensures shown { IfOk result (λ value. slice_get row.now at ≡ Some (owned value)) }
@@ -36,10 +36,10 @@ pub fn cell_of(row: &Row, at: usize) -> Result<ValueRef<'_>, ReadFault>
     }
 }
 
-/// An id.
+/// Returns the id in a column.
 ///
 /// # Errors
-/// No id stands there.
+/// The column holds no id.
 pub fn id_of(row: &Row, at: usize) -> Result<i64, ReadFault>
     ensures value { IfOk result (λ id. id ≡ id_in (column row.now at)) }
     ensures shown { IfOk result (λ id. slice_get row.now at ≡ Some (Int id)) }
@@ -51,10 +51,10 @@ pub fn id_of(row: &Row, at: usize) -> Result<i64, ReadFault>
     }
 }
 
-/// An id, or none.
+/// Returns the id in a column, or `None` for NULL.
 ///
 /// # Errors
-/// Neither NULL nor an id stands there.
+/// The column holds neither NULL nor an id.
 pub fn id_if(row: &Row, at: usize) -> Result<Option<i64>, ReadFault>
     ensures value { IfOk result (λ id. id ≡ optional_in id_in (column row.now at)) }
     ensures shown { IfOk result (λ id. slice_get row.now at ≡ Some (optional Int id)) }
@@ -67,10 +67,10 @@ pub fn id_if(row: &Row, at: usize) -> Result<Option<i64>, ReadFault>
     }
 }
 
-/// A number of at most 32 bits.
+/// Returns the number in a column, of at most 32 bits.
 ///
 /// # Errors
-/// No such number stands there.
+/// The column holds no such number.
 pub fn small_of(row: &Row, at: usize) -> Result<u32, ReadFault>
     ensures value { IfOk result (λ count. count ≡ number_in (column row.now at)) }
     ensures shown { IfOk result (λ count. slice_get row.now at ≡ Some (number count)) }
@@ -82,10 +82,10 @@ pub fn small_of(row: &Row, at: usize) -> Result<u32, ReadFault>
     }
 }
 
-/// A number by which something is counted.
+/// Returns the ordinal in a column: a number that counts things of a kind.
 ///
 /// # Errors
-/// No such number stands there.
+/// The column holds no such number.
 pub fn ordinal_of(row: &Row, at: usize) -> Result<Ordinal, ReadFault>
     ensures value { IfOk result (λ number. number ≡ number_in (column row.now at)) }
     ensures shown { IfOk result (λ count. slice_get row.now at ≡ Some (number count)) }
@@ -97,10 +97,10 @@ pub fn ordinal_of(row: &Row, at: usize) -> Result<Ordinal, ReadFault>
     }
 }
 
-/// A moment.
+/// Returns the moment in a column.
 ///
 /// # Errors
-/// No moment stands there.
+/// The column holds no moment.
 pub fn moment_of(row: &Row, at: usize) -> Result<Moment, ReadFault>
     ensures value { IfOk result (λ moment. moment ≡ number_in (column row.now at)) }
     ensures shown { IfOk result (λ moment. slice_get row.now at ≡ Some (number moment)) }
@@ -112,7 +112,7 @@ pub fn moment_of(row: &Row, at: usize) -> Result<Moment, ReadFault>
     }
 }
 
-// The bytes of a text, which may be another one.
+// Parses the bytes as a text of the rule.
 fn parsed_text<R: Rule>(alloc: Global, text: &[u8]) -> Result<Text<R>, ReadFault>
     ensures value { IfOk result (λ read. read ≡ text.now) }
     ensures fault { IfErr result (IsNotMade (is_utf8 text.now && R.admits text.now)) }
@@ -126,10 +126,10 @@ fn parsed_text<R: Rule>(alloc: Global, text: &[u8]) -> Result<Text<R>, ReadFault
     }
 }
 
-/// A text that its rule admits.
+/// Returns the text in a column, which its rule must admit.
 ///
 /// # Errors
-/// No such text stands there, or memory ran out for it.
+/// The column holds no such text, or memory ran out for it.
 pub fn text_of<R: Rule>(alloc: Global, row: &Row, at: usize) -> Result<Text<R>, ReadFault>
     ensures value { IfOk result (λ text. text ≡ bytes (column row.now at)) }
     ensures shown { IfOk result (λ text. slice_get row.now at ≡ Some (StoredText text)) }
@@ -141,10 +141,10 @@ pub fn text_of<R: Rule>(alloc: Global, row: &Row, at: usize) -> Result<Text<R>, 
     }
 }
 
-/// Yes or no.
+/// Returns the yes or no in a column.
 ///
 /// # Errors
-/// No number of at most 32 bits stands there.
+/// The column holds no number of at most 32 bits.
 pub fn flag_of(row: &Row, at: usize) -> Result<bool, ReadFault>
     ensures value { IfOk result (λ flag. flag ≡ flag_in (column row.now at)) }
     ensures shown { IfOk result (λ _. IsTrue (stands (is_number is_small) row.now at)) }
@@ -153,10 +153,10 @@ pub fn flag_of(row: &Row, at: usize) -> Result<bool, ReadFault>
     Ok(small_of(row, at)? != 0)
 }
 
-/// A number of at most 32 bits, or none.
+/// Returns the number in a column, of at most 32 bits, or `None` for NULL.
 ///
 /// # Errors
-/// Neither NULL nor such a number stands there.
+/// The column holds neither NULL nor such a number.
 pub fn small_if(row: &Row, at: usize) -> Result<Option<u32>, ReadFault>
     ensures value { IfOk result (λ count. count ≡ optional_in number_in (column row.now at)) }
     ensures shown { IfOk result (λ count. slice_get row.now at ≡ Some (optional number count)) }
@@ -170,10 +170,10 @@ pub fn small_if(row: &Row, at: usize) -> Result<Option<u32>, ReadFault>
     }
 }
 
-/// A text that its rule admits, or none.
+/// Returns the text in a column, which its rule must admit, or `None` for NULL.
 ///
 /// # Errors
-/// Neither NULL nor such a text stands there, or memory ran out for it.
+/// The column holds neither NULL nor such a text, or memory ran out for it.
 pub fn text_if<R: Rule>(alloc: Global, row: &Row, at: usize) -> Result<Option<Text<R>>, ReadFault>
     ensures value { IfOk result (λ text. text ≡ optional_in bytes (column row.now at)) }
     ensures shown { IfOk result (λ text. slice_get row.now at ≡ Some (optional StoredText text)) }
@@ -186,10 +186,10 @@ pub fn text_if<R: Rule>(alloc: Global, row: &Row, at: usize) -> Result<Option<Te
     }
 }
 
-/// A digest of 32 bytes.
+/// Returns the digest in a column, of 32 bytes.
 ///
 /// # Errors
-/// No 32 bytes stand there.
+/// The column doesn't hold 32 bytes.
 pub fn digest_of(row: &Row, at: usize) -> Result<Digest, ReadFault>
     ensures value { IfOk result (λ digest. digest ≡ bytes (column row.now at)) }
     ensures shown { IfOk result (λ digest. slice_get row.now at ≡ Some (Blob digest)) }

@@ -1,4 +1,5 @@
-//! Codes of persons, by the ids of their rows. While several rows are read, each code is looked up once.
+//! The codes of persons, by the ids of their rows. While several rows are read, each code is looked
+//! up once.
 
 ghost use Rattle.std.specs.Prelude.{◌≡◌, Some, option_map, slice_get, IfOk, IfErr, IsTrue};
 ghost use Rattle.lab_store_tables.specs.Meaning.{code_of};
@@ -16,7 +17,7 @@ use lab_records_kept::BadStore;
 use sqlite::Row;
 use std::alloc::Global;
 
-// The code of the person with the id, as a row.
+// The row of the person with the id, with the person's code.
 fn code_rows<D: Readable>(conn: &mut D, id: i64) -> Result<Vec<Row>, ReadFault>
     ensures reads { Reads (λ t rows. rows.items ≡ codes_shown t id)
         (D.state conn.old) (D.state conn.new) result }
@@ -25,7 +26,7 @@ fn code_rows<D: Readable>(conn: &mut D, id: i64) -> Result<Vec<Row>, ReadFault>
     rows_by_one(conn, "SELECT code FROM persons WHERE id = ?1", id)
 }
 
-// The code that the first row shows. That there is no row is a fault of the store.
+// The code in the first row. It is a fault of the store if there is no row.
 fn first_code(alloc: Global, rows: &[Row]) -> Result<PersonCode, ReadFault>
     ensures value { IfOk result (λ code.
         Some code ≡ option_map code_read (slice_get rows.now 0)) }
@@ -37,10 +38,10 @@ fn first_code(alloc: Global, rows: &[Row]) -> Result<PersonCode, ReadFault>
     }
 }
 
-/// The code of the person with the id. That there is nobody is a fault of the store.
+/// Returns the code of the person with the id. It is a fault of the store if nobody has the id.
 ///
 /// # Errors
-/// The store refused, a row is none that this program writes, or memory ran out.
+/// The store failed, a row isn't one that this program could have written, or memory ran out.
 pub fn code_at<D: Readable>(alloc: Global, conn: &mut D, id: i64) -> Result<PersonCode, ReadFault>
     ensures reads { Reads (λ t code. code ≡ code_of t id)
         (D.state conn.old) (D.state conn.new) result }

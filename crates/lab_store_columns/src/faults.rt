@@ -8,11 +8,11 @@ use lab_records_kept::{BadStore, KeeperFault};
 use sqlite::{Error, ErrorCode};
 use sqlite_resolve::CompileError;
 
-/// Why nothing was read: the store refused or a row of it is none that is written, or memory ran out. The rows are as they
-/// were. A keeper gives it as its own.
+/// Why nothing was read: the store failed, a row isn't one that this program could have written, or
+/// memory ran out. The rows are unchanged. A keeper returns this fault as its own.
 pub type ReadFault = KeeperFault;
 
-/// What an error of the store is told as.
+/// Returns the read fault for an error of the store.
 pub fn read_fault(error: Error) -> ReadFault
     ensures { result ≡ store_fault error }
 {
@@ -33,7 +33,7 @@ fn is_out_of_memory(error: &Error) -> bool
     )
 }
 
-/// What is told where a stored text is none of its kind, or memory ran out for it.
+/// Returns the read fault for a stored text that breaks its rule, or for which memory ran out.
 pub(crate) fn name_fault(error: NameFault) -> ReadFault
     ensures { result ≡ name_fault error }
 {

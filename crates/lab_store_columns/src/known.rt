@@ -1,5 +1,5 @@
-//! Codes of persons that were read, each kept with the id of the person's row: a list of rows reads
-//! the code of a person once.
+//! Codes of persons that were read, each kept with the id of the person's row, so that a list of
+//! rows reads the code of each person once.
 
 ghost use Rattle.std.specs.Prelude.{◌≡◌, [], ◌∷◌, ◌++◌, find, reverse, option_copied, option_map, IfOk, IsTrue, true};
 ghost use Rattle.std.specs.Option.{option_map_or};
@@ -32,7 +32,7 @@ fn known_with_id(known: &[KnownCode], id: i64) -> Option<&KnownCode>
     known.iter().rev().find(|one| one.id == id)
 }
 
-// The code that is kept with the id, if one is. The only error is out of memory.
+// The code that is kept with the id, if one is. Fails only if memory runs out.
 fn code_among(known: &[KnownCode], id: i64) -> Result<Option<PersonCode>, OutOfMemory>
     ensures { IfOk result (λ code. code ≡ code_among known.now id) }
 {
@@ -42,7 +42,7 @@ fn code_among(known: &[KnownCode], id: i64) -> Result<Option<PersonCode>, OutOfM
     }
 }
 
-// The code of the person with the id, which is read, and is kept behind others.
+// The code of the person with the id, which is read and is kept after the others.
 fn new_code<D: Readable>(
     alloc: Global,
     conn: &mut D,
@@ -61,10 +61,11 @@ fn new_code<D: Readable>(
     Ok(code)
 }
 
-/// The code of the person with the id: it is read where none is kept with the id, and is kept.
+/// Returns the code of the person with the id. If no code is kept with the id, the code is read and
+/// kept.
 ///
 /// # Errors
-/// The store refused, a row is none that this program writes, or memory ran out.
+/// The store failed, a row isn't one that this program could have written, or memory ran out.
 pub fn code_once<D: Readable>(
     alloc: Global,
     conn: &mut D,
@@ -84,11 +85,11 @@ pub fn code_once<D: Readable>(
     }
 }
 
-/// The code of the person with the id, where there is an id: it is read where none is kept with the
-/// id, and is kept.
+/// Returns the code of the person with the id, or `None` without an id. If no code is kept with the
+/// id, the code is read and kept.
 ///
 /// # Errors
-/// The store refused, a row is none that this program writes, or memory ran out.
+/// The store failed, a row isn't one that this program could have written, or memory ran out.
 pub fn code_if_any<D: Readable>(
     alloc: Global,
     conn: &mut D,

@@ -1,5 +1,6 @@
-//! What rows are read from; the rows of a query by what it asks with, and one column of a row that is shown, as what stands in
-//! it; the code of a person by the id of the person's row (ISO/IEC 17025:2017, 8.4.2: retrieval of records). Nothing is written.
+//! What rows are read from; the rows of a query, by the kinds of its parameters; one column of a
+//! row, read as its type; and the code of a person, by the id of the person's row (ISO/IEC
+//! 17025:2017, 8.4.2: retrieval of records). Nothing is written.
 #![tactic(auto)]
 
 pub mod asking;

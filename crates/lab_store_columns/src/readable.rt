@@ -8,15 +8,16 @@ use crate::faults::ReadFault;
 use sqlite::Row;
 use sqlite::types::ValueRef;
 
-/// What answers queries, with its state, of which each reader tells what it reads and what stays as it was.
+/// What answers queries. It has a state, and each reader states what it reads from the state and
+/// what stays unchanged.
 ///
-/// Readers name no connection: what is proved of them holds over whatever answers so, and a crate of readers loads nothing of
-/// what stands behind it.
+/// Readers name no connection. So what is proved of them holds over everything that answers queries
+/// in this way, and a crate of readers doesn't depend on the connection.
 pub trait Readable {
-    /// What is shown, and what a statement does to it.
+    /// The tables that are shown, and what a statement does to them.
     ghost state: { Self → State };
 
-    /// All rows of the answer.
+    /// Returns all rows of the answer.
     ///
     /// # Errors
     /// The statement is refused, the disk fails, or memory runs out.

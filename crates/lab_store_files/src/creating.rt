@@ -1,4 +1,4 @@
-//! A new file is made, by one commit.
+//! The making of a new file, in one commit.
 
 ghost use Rattle.std.specs.Prelude.{◌≡◌, ◌⊎◌, ℕ, List, [], None, Err, IfErr, OnOk, OnErr, IsTrue};
 ghost use Rattle.sqlite.specs.Held.{state};
@@ -34,7 +34,7 @@ fn run<S: Alter>(tx: &mut Transaction<'_, S>, text: &str) -> Result<usize, Error
     tx.execute(text, &[])
 }
 
-// Makes one table behind those that stand before it.
+// Makes one table after those that are there.
 fn make_table<S: Alter>(tx: &mut Transaction<'_, S>, one: LabTable) -> Result<usize, Error>
     requires mode { HasCleanDisk (state S.Store tx.old.conn.now) →
         IsTrue (state S.Store tx.old.conn.now).in_transaction }
@@ -73,7 +73,7 @@ fn make_tables<S: Alter>(tx: &mut Transaction<'_, S>) -> Result<(), Error>
     Ok(())
 }
 
-// Makes the index behind the tables.
+// Makes the index after the tables.
 fn make_index<S: Alter>(tx: &mut Transaction<'_, S>) -> Result<usize, Error>
     requires mode { HasCleanDisk (state S.Store tx.old.conn.now) →
         IsTrue (state S.Store tx.old.conn.now).in_transaction }
@@ -109,7 +109,8 @@ fn name_schema<S: Alter>(tx: &mut Transaction<'_, S>) -> Result<usize, Error>
     run(tx, texts::SCHEMA_ROW)
 }
 
-// Makes all that a new file has. The row that names the schema comes last: a file without it is unfinished.
+// Makes everything that a new file has. The row that names the schema comes last: a file without it
+// is unfinished.
 fn make_all<S: Alter>(tx: &mut Transaction<'_, S>) -> Result<(), Error>
     requires mode { HasCleanDisk (state S.Store tx.old.conn.now) →
         IsTrue (state S.Store tx.old.conn.now).in_transaction }
@@ -146,11 +147,12 @@ fn make_file<S: Alter>(conn: &mut Connection<S>) -> Result<(), Error>
     Ok(())
 }
 
-/// Makes the tables of a new file and the row that names their schema, by one commit. Tables of other names stay as
-/// they are.
+/// Makes the tables of a new file and the row that names their schema, in one commit. Tables with
+/// other names are unchanged.
 ///
 /// # Errors
-/// A table of such a name is there, a refusal of the store, or out of memory. The rows are then as before.
+/// A table with such a name exists, the store failed, or memory ran out. The rows are then as
+/// before.
 pub fn create<S: Alter>(conn: &mut Connection<S>) -> Result<(), FileFault>
     requires at_rest { IsAtRest (state S.Store conn.old) }
     // In an empty file:

@@ -1,4 +1,4 @@
-//! Why a file was not made, or not opened.
+//! Why a file wasn't made, or wasn't opened.
 
 ghost use Rattle.std.specs.Prelude.{◌≡◌, Some};
 ghost use Rattle.lab_store_files.specs.Faults.{file_fault_entry, file_fault_value, is_out_of_memory, store_fault};
@@ -8,18 +8,19 @@ use sqlite_resolve::CompileError;
 use std::fmt;
 use thiserror::Error;
 
-/// Why a file was not made, or not opened. Its rows are as they were. Its text is its word.
+/// Why a file wasn't made, or wasn't opened. Its rows are unchanged. A fault is printed as its
+/// word.
 #[derive(Clone, Copy, Debug, PartialEq, Eq, Error)]
 pub enum FileFault {
-    /// The file is none in which laboratories are kept, or not a whole one.
+    /// The file isn't one in which laboratories are kept, or isn't a whole one.
     NotADeskFile,
-    /// The file has an older schema, of this number.
+    /// The file has an older schema, with this number.
     SchemaOld(u64),
-    /// The file has a newer schema, of this number.
+    /// The file has a newer schema, with this number.
     SchemaNew(u64),
-    /// The store refused.
+    /// The store failed.
     Storage,
-    /// A table of a name that this schema wants is there already.
+    /// A table with a name that this schema needs exists already.
     NotEmpty,
     /// Memory ran out.
     Memory,
@@ -40,21 +41,21 @@ impl FileFault {
         }
     }
 
-    /// The number by which the fault is known.
+    /// Returns the number of the fault.
     pub fn number(&self) -> Option<u32>
         ensures { result ≡ Some (file_fault_entry self.now).number }
     {
         Some(self.entry().0)
     }
 
-    /// The word by which the fault is known.
+    /// Returns the word of the fault.
     pub fn word(&self) -> &'static str
         ensures { result.now ≡ (file_fault_entry self.now).word }
     {
         self.entry().1
     }
 
-    /// The number of the schema that the file has, where the fault is that it is another one.
+    /// Returns the number of the file's schema, if the fault is that the schema is another one.
     pub fn value(&self) -> Option<u64>
         ensures { result ≡ file_fault_value self.now }
     {

@@ -1,6 +1,6 @@
-//! A file in which laboratories are kept, made new or opened: the tables are made by one commit, and a file is taken
-//! only where it says which schema it has and has every table and column of it (21 CFR 11.10(a) and (c); ISO/IEC
-//! 17025:2017, 7.11.3 and 8.4.2).
+//! A file in which laboratories are kept, made new or opened. The tables are made in one commit,
+//! and a file is opened only if it says which schema it has and has every table and column of this
+//! schema (21 CFR 11.10(a) and (c); ISO/IEC 17025:2017, 7.11.3 and 8.4.2).
 #![tactic(auto)]
 
 mod creating;

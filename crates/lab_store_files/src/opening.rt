@@ -1,4 +1,4 @@
-//! A file that is there is opened, where it is one of this schema.
+//! Opens an existing file, if it has this schema.
 
 ghost use Rattle.std.specs.Prelude.{◌≡◌, ◌⊎◌, [], Ok, IfOk, OnOk};
 ghost use Rattle.sqlite_value.specs.Order.{column};
@@ -18,7 +18,7 @@ use sqlite_schema::schema::Schema;
 /// The number of the schema that the tables of this crate make.
 const SCHEMA: i64 = 3;
 
-// The whole number that a row shows first.
+// The whole number in the first column of a row.
 fn integer_in(row: &Row) -> Option<i64>
     ensures { result ≡ integer_in (column row.now 0) }
 {
@@ -29,7 +29,7 @@ fn integer_in(row: &Row) -> Option<i64>
     }
 }
 
-// The number that the rows show, where one row alone shows one.
+// The number that the rows show, if there is exactly one row and it shows a number.
 fn shown_number(rows: &[Row]) -> Option<i64>
     ensures { result ≡ number_shown rows.now }
 {
@@ -54,7 +54,7 @@ fn check_number(number: i64) -> Result<(), FileFault>
     Ok(())
 }
 
-// What the file is, by its schema and by what the question for the number shows.
+// What the file is, judged by its schema and by the rows that the query for the number returns.
 fn verdict(schema: &Schema, rows: &[Row]) -> Result<(), FileFault>
     ensures { result ≡ file_verdict schema.now rows.now }
 {
@@ -69,7 +69,7 @@ fn verdict(schema: &Schema, rows: &[Row]) -> Result<(), FileFault>
     }
 }
 
-// The rows that the question for the number shows.
+// The rows that the query for the number returns.
 fn number_rows<S: Alter>(conn: &mut Connection<S>) -> Result<Vec<Row>, Error>
     ensures shown { HasCleanDisk (state S.Store conn.new) →
         IfOk result (λ rows. Shown number_query []
@@ -84,22 +84,24 @@ fn number_rows<S: Alter>(conn: &mut Connection<S>) -> Result<Vec<Row>, Error>
     conn.query_all(texts::SCHEMA_QUERY, &[])
 }
 
-/// Opens a file in which laboratories are kept: its schema is the one of this crate, by the one row of the table `desk`,
-/// and each table and column is there. Nothing is written. What the rows say isn't looked at.
+/// Opens a file in which laboratories are kept: its schema is the schema of this crate, by the one
+/// row of the table `desk`, and every table and column is there. Writes nothing. Doesn't check what
+/// the rows say.
 ///
 /// # Errors
-/// None of these files, an older or a newer schema with its number, a refusal of the store, or out of memory.
+/// The file isn't one of these files, or has an older or a newer schema, with its number, or the
+/// store failed, or memory ran out.
 pub fn open<S: Alter>(conn: &mut Connection<S>) -> Result<(), FileFault>
-    // The answer is the verdict on the file, or the store gave none:
+    // The answer is the verdict on the file, unless the store failed first:
     ensures answer { HasCleanDisk (state S.Store conn.new) →
         Answers (state S.Store conn.old) (state S.Store conn.new) result }
-    // A file of ours is never refused as another one:
+    // A file of ours is never refused as a foreign one:
     ensures ours { HasCleanDisk (state S.Store conn.new) →
         WhereShown (state S.Store conn.old) (IsKept (state S.Store conn.old).now →
         (result ≡ Ok tt) ⊎ FailedInStore result) }
     ensures same { HasCleanDisk (state S.Store conn.new) →
         OnOk result (IsUnchanged (state S.Store conn.old) (state S.Store conn.new)) }
-    // However it ends, the rows are as they were, and a crash leaves no more than before:
+    // Whatever the result, the rows are unchanged, and a crash leaves no more than before:
     ensures rows { IsAtRest (state S.Store conn.old) → WhereShown (state S.Store conn.new)
         ((state S.Store conn.new).now ≡ (state S.Store conn.old).now) }
     ensures crash { LeavesNoMore (state S.Store conn.old) (state S.Store conn.new) }

@@ -1,4 +1,4 @@
-//! What the schema of a file has of the tables.
+//! The tables that the schema of a file has.
 
 ghost use Rattle.std.specs.Prelude.{◌≡◌, is_some};
 ghost use Rattle.std.specs.List.{list_all};
@@ -10,7 +10,7 @@ use crate::tables::LabTable;
 use sqlite_schema::names::same_name;
 use sqlite_schema::schema::{Schema, Table};
 
-// The table of a name.
+// The table with a name.
 fn table_named<'a>(schema: &'a Schema, name: &str) -> Option<&'a Table>
     ensures { option_copied result ≡ spec.table_named schema.now name.now }
 {
@@ -27,7 +27,7 @@ fn has_column(table: &Table, name: &str) -> bool
     table.columns.as_slice().iter().any(|column| same_name(column.name.as_slice(), name.as_bytes()))
 }
 
-/// Whether the table has a column of each name.
+/// Returns whether the table has a column with each name.
 pub(crate) fn has_all(table: &Table, names: &[&str]) -> bool
     ensures { result ≡ list_all (λ name. spec.has_column table.now name.now) names.now }
 {
@@ -52,21 +52,21 @@ fn has_table(schema: &Schema, one: LabTable) -> bool
     }
 }
 
-/// Whether all tables are there, with their columns.
+/// Returns whether all tables are there, with their columns.
 pub(crate) fn is_whole(schema: &Schema) -> bool
     ensures { result ≡ spec.is_whole schema.now }
 {
     LabTable::ALL.iter().all(|one| has_table(schema, *one))
 }
 
-/// Whether a table of one of the names is there.
+/// Returns whether a table with one of the names is there.
 pub(crate) fn is_taken(schema: &Schema) -> bool
     ensures { result ≡ spec.is_taken schema.now }
 {
     LabTable::ALL.iter().any(|one| has_name(schema, *one))
 }
 
-/// Whether the file can be asked for the number of its schema.
+/// Returns whether the file can be asked for the number of its schema.
 pub(crate) fn has_number(schema: &Schema) -> bool
     ensures { result ≡ spec.has_number schema.now }
 {

@@ -1,4 +1,4 @@
-//! The twelve tables by name: what makes each, and which columns it has.
+//! The twelve tables by name: the statement that makes each, and its columns.
 
 ghost use Rattle.std.specs.Prelude.{◌≡◌};
 ghost use Rattle.lab_store_files.specs.Tables.{table_name, table_text, own_table};
@@ -111,7 +111,7 @@ impl LabTable {
         LabTable::Trail,
     ];
 
-    /// The table's name.
+    /// Returns the table's name.
     pub(crate) fn name(self) -> &'static str
         ensures { result.now ≡ table_name self }
     {
@@ -131,7 +131,7 @@ impl LabTable {
         }
     }
 
-    /// Whether a table of a file has each of the columns.
+    /// Returns whether a table of a file has each of the columns.
     pub(crate) fn has_columns_in(self, table: &Table) -> bool
         ensures { result ≡ has_columns (own_table self) table.now }
     {
@@ -151,7 +151,7 @@ impl LabTable {
         }
     }
 
-    /// The statement that makes the table.
+    /// Returns the statement that makes the table.
     pub(crate) fn text(self) -> &'static str
         ensures { result.now ≡ table_text self }
     {

@@ -66,12 +66,12 @@ pub(crate) const TRAIL: &str = "\
     number INTEGER NOT NULL, moment INTEGER NOT NULL, person INTEGER REFERENCES persons (id), \
     action TEXT NOT NULL, subject TEXT NOT NULL, UNIQUE (lab, number)) STRICT";
 
-/// A person's sessions, at a lock and at a retirement.
+/// The index of a person's sessions, which is used at a lock and at a retirement.
 pub(crate) const SESSIONS_OF_PERSON: &str =
     "CREATE INDEX sessions_of_person ON sessions (person, closed)";
 
 /// The row that names the schema, which is made last.
 pub(crate) const SCHEMA_ROW: &str = "INSERT INTO desk (schema) VALUES (3)";
 
-/// The question for the number of the schema.
+/// The query for the number of the schema.
 pub(crate) const SCHEMA_QUERY: &str = "SELECT schema FROM desk";

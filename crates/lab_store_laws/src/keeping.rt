@@ -1,4 +1,5 @@
-//! Laws: well-kept tables stay well kept, whatever change is made of a laboratory, and where one is founded.
+//! The laws that well-kept tables stay well kept after every change of a laboratory, and after
+//! every founding.
 ghost use Rattle.std.specs.Prelude.{◌≡◌, ℕ, List, [], ◌∷◌};
 ghost use Rattle.sqlite.specs.Effect.{Database};
 ghost use Rattle.sqlite_schema.specs.Rules.{Obeys};
@@ -16,9 +17,9 @@ ghost use Rattle.lab_store_tables.specs.Changes.{Applies};
 ghost use Rattle.lab_store_tables.specs.Placing.{PlacesLab};
 ghost use Rattle.lab_store_laws.specs.ByRules.{IsByRules};
 
-/// Law: where a change fits the laboratory of the code, as well-kept tables mean it, what the change makes of the tables is
-/// well kept again, and names the schema as before. That ids and keys are unique there and that arrows lead to rows a database
-/// of the schema keeps by itself, whatever is written.
+/// Law: if a change fits the laboratory of the code that well-kept tables mean, the tables after
+/// the change are well kept, and name the same schema as before. A database of the schema itself
+/// ensures that ids and keys are unique and that arrows lead to rows, whatever is written.
 pub fn a_change_keeps_the_tables_well()
     ensures rules { (db : Database) → IsTyped db → Obeys lab_schema db.trees
         → IsByRules (tables_in db.trees) }
@@ -29,8 +30,8 @@ pub fn a_change_keeps_the_tables_well()
         → new.desk ≡ old.desk }
 {}
 
-/// Law: where a laboratory is founded, what its placing makes of well-kept tables is well kept again; and whichever laboratory
-/// is placed, the schema is named as before.
+/// Law: if a laboratory is founded in well-kept tables, the tables after its rows are added are
+/// well kept; and whichever laboratory is added, the tables name the same schema as before.
 pub fn a_founding_keeps_the_tables_well()
     ensures kept { (old new : Tables) (newborn : Newborn) → AreWellKept old → IsByRules new
         → PlacesLab (newborn_lab newborn) old new → AreWellKept new }

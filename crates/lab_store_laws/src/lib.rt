@@ -1,7 +1,7 @@
-//! The laws of the tables, over the definitions of `lab_store_tables` alone: what is written is read back;
-//! what a change makes of the tables means what it makes of the laboratory, and every other
-//! laboratory means what it meant; and the tables stay well kept (ISO/IEC 17025:2017, 7.5.2 and
-//! 7.11.3; 21 CFR 11.10(e)). Each function does nothing: its contract says the laws.
+//! The laws of the tables, which use only the definitions of `lab_store_tables`: what is written is
+//! read back; the tables after a change mean the laboratory after the change, and every other
+//! laboratory is unchanged; and the tables stay well kept (ISO/IEC 17025:2017, 7.5.2 and 7.11.3; 21
+//! CFR 11.10(e)). Each function does nothing: its contract states the laws.
 #![tactic(auto)]
 
 mod changes;

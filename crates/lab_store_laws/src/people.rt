@@ -1,4 +1,4 @@
-//! Law: what a change of persons, sessions or forms makes of the tables means what it makes of the
+//! The law that a change of persons, sessions or forms in the tables means the same change of the
 //! laboratory.
 ghost use Rattle.std.specs.Prelude.{ℕ, List, [], ◌∷◌};
 ghost use Rattle.lab_people_access.specs.declared.persons.Person.{Person};
@@ -13,9 +13,9 @@ ghost use Rattle.lab_store_tables.specs.WellKept.{AreWellKept};
 ghost use Rattle.lab_store_tables.specs.Changes.{Applies};
 ghost use Rattle.lab_store_tables.specs.Held.{AreRising};
 
-/// Law: of well-kept tables, what a change makes of them means what it makes of the laboratory of
-/// the code, and every other laboratory means what it meant: so it is with a session that is set, a
-/// person who is added or set, and a version of a form that is added.
+/// Law: if a change is made in well-kept tables, the new tables mean the laboratory of the code as
+/// the change makes it, and every other laboratory is unchanged. The change sets a session, adds or
+/// sets a person, or adds a version of a form.
 pub fn a_change_of_people_or_forms_means_itself()
     ensures session_set { (old new : Tables) (code : List ℕ) (session : Session) → AreWellKept old
         → ChangesFit (meaning old code) (SessionSet session ∷ [])

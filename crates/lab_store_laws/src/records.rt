@@ -1,4 +1,4 @@
-//! Law: what a change of records makes of the tables means what it makes of the laboratory.
+//! The law that a change of records in the tables means the same change of the laboratory.
 ghost use Rattle.std.specs.Prelude.{ℕ, List, [], ◌∷◌};
 ghost use Rattle.lab_seal_versions.specs.declared.rows.EntryRow.{EntryRow};
 ghost use Rattle.lab_records_kept.specs.declared.records.Record.{Record};
@@ -13,9 +13,9 @@ ghost use Rattle.lab_store_tables.specs.WellKept.{AreWellKept};
 ghost use Rattle.lab_store_tables.specs.Changes.{Applies};
 ghost use Rattle.lab_store_tables.specs.Held.{AreRising};
 
-/// Law: of well-kept tables, what a change of records makes of them means what it makes of the
-/// laboratory of the code, and every other laboratory means what it meant: so it is with a row and a
-/// signature of a version, with a version that is opened, and with a record that is added.
+/// Law: if a change of records is made in well-kept tables, the new tables mean the laboratory of
+/// the code as the change makes it, and every other laboratory is unchanged. The change adds a row
+/// or a signature to a version, opens a version, or adds a record.
 pub fn a_change_of_records_means_itself()
     ensures entry { (old new : Tables) (code : List ℕ) (number : ℕ) (entry : EntryRow)
         → AreRising old → AreWellKept old → Applies code (RowAdded number entry) old new

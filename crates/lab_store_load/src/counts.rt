@@ -24,7 +24,8 @@ pub struct Counted {
     pub persons: u64,
 }
 
-// How many persons the laboratory with the id has: those that were counted, where they are its own.
+// How many persons the laboratory with the id has: the number that was counted before, if it was
+// counted for this laboratory.
 fn persons_after<D: Readable>(conn: &mut D, lab: i64, counted: &Counted) -> Result<u64, ReadFault>
     ensures reads { MayRead (λ t persons. IsCounted t counted.now →
         persons ≡ length (persons_of t lab)) (D.state conn.old) (D.state conn.new) result }
@@ -36,10 +37,11 @@ fn persons_after<D: Readable>(conn: &mut D, lab: i64, counted: &Counted) -> Resu
     person_count(conn, lab)
 }
 
-/// How many persons the laboratory with the id has. They are counted, where they weren't before.
+/// Returns how many persons the laboratory with the id has. Counts them unless they were counted
+/// before.
 ///
 /// # Errors
-/// The store refused, a row is none that this program writes, or memory ran out.
+/// The store failed, a row isn't one that this program could have written, or memory ran out.
 pub fn persons_counted<D: Readable>(
     conn: &mut D,
     lab: i64,
@@ -55,7 +57,7 @@ pub fn persons_counted<D: Readable>(
     }
 }
 
-// The id of the row of the laboratory of the code, where there is one.
+// The id of the row of the laboratory with the code, if there is one.
 fn lab_id<D: Readable>(
     alloc: Global,
     conn: &mut D,
@@ -71,8 +73,8 @@ fn lab_id<D: Readable>(
     }
 }
 
-// The id of the row of the laboratory of the code, where there is one: it isn't looked up, where it
-// is the one that was counted.
+// The id of the row of the laboratory with the code, if there is one. It isn't looked up if this
+// laboratory was counted before.
 fn lab_id_after<D: Readable>(
     alloc: Global,
     conn: &mut D,
@@ -88,11 +90,11 @@ fn lab_id_after<D: Readable>(
     lab_id(alloc, conn, code)
 }
 
-/// The id of the row of the laboratory of the code, where there is one. It is looked up, where it
-/// isn't the one that was counted.
+/// Returns the id of the row of the laboratory with the code, if there is one. Looks it up unless
+/// this laboratory was counted before.
 ///
 /// # Errors
-/// The store refused, a row is none that this program writes, or memory ran out.
+/// The store failed, a row isn't one that this program could have written, or memory ran out.
 pub fn lab_id_at<D: Readable>(
     alloc: Global,
     conn: &mut D,
@@ -101,8 +103,8 @@ pub fn lab_id_at<D: Readable>(
 ) -> Result<Option<i64>, ReadFault>
     ensures reads { MayRead (λ t id. IfSome counted.now (IsCounted t) → id ≡ lab_id_of t code.now)
         (D.state conn.old) (D.state conn.new) result }
-    // Where it is open if anything was counted: a connection that answers is open, also where nothing
-    // is looked up.
+    // If the connection is open whenever something was counted: a connection that answers is open,
+    // even if nothing is looked up.
     ensures opened { IsOpenIn (D.state conn.old) counted.now → HasCleanDisk (D.state conn.new) →
         OnOk result (IsTrue (D.state conn.old).is_open) }
 {

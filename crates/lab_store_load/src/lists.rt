@@ -1,4 +1,4 @@
-//! How many a laboratory has, and which of them are meant.
+//! The counts of a laboratory, and the list that a command asks for.
 
 ghost use Rattle.std.specs.Prelude.{◌≡◌, Some, IfSome};
 ghost use Rattle.lab_records_kept.specs.declared.needs.ListWanted.TheVariants.{Persons, Records, Trail};
@@ -20,7 +20,7 @@ use lab_store_read_records::LabHead;
 use lab_store_read_trail::trail_within;
 use std::alloc::Global;
 
-/// The list that is meant; the others are empty.
+/// The list that a command asks for; the others are empty.
 #[derive(Drop)]
 pub struct Listed {
     /// Persons.
@@ -31,10 +31,10 @@ pub struct Listed {
     pub trail: Series<TrailRow>,
 }
 
-/// How many the laboratory has. Its persons are counted, where they weren't before.
+/// Returns the counts of the laboratory. Its persons are counted unless they were counted before.
 ///
 /// # Errors
-/// The store refused, a row is none that this program writes, or memory ran out.
+/// The store failed, a row isn't one that this program could have written, or memory ran out.
 pub fn counts_at<D: Readable>(
     conn: &mut D,
     counted: &Option<Counted>,
@@ -72,7 +72,7 @@ fn persons_listed<D: Readable>(
     })
 }
 
-// The records from a number to a number.
+// The records with a number in the range.
 fn records_listed<D: Readable>(
     alloc: Global,
     conn: &mut D,
@@ -94,7 +94,7 @@ fn records_listed<D: Readable>(
     })
 }
 
-// The rows of the trail from a number to a number.
+// The rows of the trail with a number in the range.
 fn trail_listed<D: Readable>(
     alloc: Global,
     conn: &mut D,
@@ -115,7 +115,7 @@ fn trail_listed<D: Readable>(
     })
 }
 
-// The list.
+// The list that a command asks for.
 fn list_wanted<D: Readable>(
     alloc: Global,
     conn: &mut D,
@@ -134,10 +134,10 @@ fn list_wanted<D: Readable>(
     }
 }
 
-/// The list that is meant.
+/// Returns the list that a command asks for.
 ///
 /// # Errors
-/// The store refused, a row is none that this program writes, or memory ran out.
+/// The store failed, a row isn't one that this program could have written, or memory ran out.
 pub fn listed_at<D: Readable>(
     alloc: Global,
     conn: &mut D,

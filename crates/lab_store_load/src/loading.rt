@@ -1,4 +1,4 @@
-//! The part of a laboratory that is needed.
+//! The part of a laboratory that a command needs.
 
 ghost use Rattle.std.specs.Prelude.{◌≡◌, None, find, option_map, IfSome, OnErr};
 ghost use Rattle.lab_records_kept.specs.Parts.{part_of};
@@ -20,7 +20,7 @@ use lab_store_columns::{ReadFault, Readable};
 use lab_store_read_records::{LabHead, lab_at};
 use std::alloc::Global;
 
-// The part of the laboratory of the row, with how many it has and the list.
+// The part of the laboratory with the row, with its counts and the list.
 fn slice_with<D: Readable>(
     alloc: Global,
     conn: &mut D,
@@ -53,7 +53,7 @@ fn slice_with<D: Readable>(
     })
 }
 
-// The part of the laboratory of the row, with how many it has.
+// The part of the laboratory with the row, with its counts.
 fn slice_counted<D: Readable>(
     alloc: Global,
     conn: &mut D,
@@ -70,7 +70,7 @@ fn slice_counted<D: Readable>(
     slice_with(alloc, conn, head, need, counts, listed)
 }
 
-// The part of the laboratory of the row. Its persons are counted, where they weren't before.
+// The part of the laboratory with the row. Its persons are counted unless they were counted before.
 fn slice_at<D: Readable>(
     alloc: Global,
     conn: &mut D,
@@ -87,8 +87,8 @@ fn slice_at<D: Readable>(
     slice_counted(alloc, conn, head, need, counts)
 }
 
-// The part of the laboratory of the code, where its row was found, by what was counted before. What
-// is counted is kept.
+// The part of the laboratory with the code if its row was found, with the help of what was counted
+// before. What is counted is kept.
 fn slice_if<D: Readable>(
     alloc: Global,
     conn: &mut D,
@@ -125,12 +125,12 @@ fn slice_if<D: Readable>(
     }
 }
 
-/// The part of a laboratory that is needed, or none where there is no laboratory of the code. Its
-/// persons are counted, where they weren't before, and what was counted is kept.
+/// Returns the part of a laboratory that a command needs, or `None` if no laboratory has the code.
+/// Its persons are counted unless they were counted before, and what was counted is kept.
 ///
 /// # Errors
-/// The store refused, a row is none that this program writes, or memory ran out. What was counted
-/// is then forgotten.
+/// The store failed, a row isn't one that this program could have written, or memory ran out. What
+/// was counted is then forgotten.
 pub fn load<D: Readable>(
     alloc: Global,
     conn: &mut D,
@@ -138,7 +138,7 @@ pub fn load<D: Readable>(
     code: &LabCode,
     need: &Need,
 ) -> Result<Option<Slice>, ReadFault>
-    // Where what was counted before is right:
+    // If what was counted before is right:
     ensures reads { Reads (λ t found. IfSome counted.old (IsCounted t) →
         (found ≡ part_of need.now (meaning t code.now)) × IfSome counted.new (IsCounted t))
         (D.state conn.old) (D.state conn.new) result }

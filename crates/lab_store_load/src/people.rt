@@ -1,4 +1,4 @@
-//! Who is meant: by a token, and by a code.
+//! The caller, found by token, and the person whom a command names, found by code.
 
 ghost use Rattle.std.specs.Prelude.{◌≡◌, option_and_then};
 ghost use Rattle.lab_records_kept.specs.Lookups.{session_at, person_at, caller_of};
@@ -17,27 +17,27 @@ use lab_store_read_people::{person_at, session_at};
 use lab_store_read_records::LabHead;
 use std::alloc::Global;
 
-/// The session that is meant, and its person.
+/// The session of the command's token, and its person.
 #[derive(Drop)]
 struct Callers {
-    /// The session, where it is there.
+    /// The session, if it was found.
     session: Option<Session>,
-    /// Whose it is.
+    /// The person whose session it is.
     caller: Option<Person>,
 }
 
 /// The session that a command asks for, its person, and the person whom the command names.
 #[derive(Drop)]
 pub struct People {
-    /// The session, where it is there.
+    /// The session, if it was found.
     pub session: Option<Session>,
-    /// Whose it is.
+    /// The person whose session it is.
     pub caller: Option<Person>,
-    /// The person of the code, where somebody has or had it.
+    /// The person with the code, if somebody has or had it.
     pub person: Option<Person>,
 }
 
-// The session whose token has the digest, where one is given.
+// The session whose token has the digest, if a digest is given.
 fn session_if<D: Readable>(
     alloc: Global,
     conn: &mut D,
@@ -56,7 +56,7 @@ fn session_if<D: Readable>(
     }
 }
 
-// Whose session it is.
+// The person whose session it is.
 fn caller_if<D: Readable>(
     alloc: Global,
     conn: &mut D,
@@ -74,7 +74,7 @@ fn caller_if<D: Readable>(
     }
 }
 
-// The session that is meant, and its person.
+// The session of the command's token, and its person.
 fn callers_at<D: Readable>(
     alloc: Global,
     conn: &mut D,
@@ -91,7 +91,7 @@ fn callers_at<D: Readable>(
     Ok(Callers { session, caller })
 }
 
-// The person of the code, where one is given.
+// The person with the code, if a code is given.
 fn person_if<D: Readable>(
     alloc: Global,
     conn: &mut D,
@@ -110,10 +110,11 @@ fn person_if<D: Readable>(
     }
 }
 
-/// The session of the command's token, its person, and the person whom the command names, as far as they are there.
+/// Returns those that exist of the session of the command's token, its person, and the person whom
+/// the command names.
 ///
 /// # Errors
-/// The store refused, a row is none that this program writes, or memory ran out.
+/// The store failed, a row isn't one that this program could have written, or memory ran out.
 pub fn people_at<D: Readable>(
     alloc: Global,
     conn: &mut D,

@@ -1,4 +1,4 @@
-//! What is meant: a version of a form, and a record.
+//! The version of a form and the record that a command names.
 
 ghost use Rattle.std.specs.Prelude.{◌≡◌, option_and_then, IfSome};
 ghost use Rattle.lab_records_kept.specs.Parts.{form_meant, record_meant};
@@ -17,13 +17,13 @@ use std::alloc::Global;
 /// The form and the record that a command names.
 #[derive(Drop)]
 pub struct Things {
-    /// The version of a form, where it is there.
+    /// The version of a form, if it was found.
     pub form: Option<FormVersion>,
-    /// The record, where it is there.
+    /// The record, if it was found.
     pub filed: Option<FoundRecord>,
 }
 
-// The version of a form.
+// The version of a form that the command names.
 fn form_wanted<D: Readable>(
     alloc: Global,
     conn: &mut D,
@@ -41,7 +41,7 @@ fn form_wanted<D: Readable>(
     }
 }
 
-// The version of a form, where one is meant.
+// The version of a form that the command names, if it names one.
 fn form_if<D: Readable>(
     alloc: Global,
     conn: &mut D,
@@ -60,7 +60,7 @@ fn form_if<D: Readable>(
     }
 }
 
-// The record.
+// The record that the command names.
 fn filed_wanted<D: Readable>(
     alloc: Global,
     conn: &mut D,
@@ -80,7 +80,7 @@ fn filed_wanted<D: Readable>(
     }
 }
 
-// The record, where one is meant.
+// The record that the command names, if it names one.
 fn filed_if<D: Readable>(
     alloc: Global,
     conn: &mut D,
@@ -99,10 +99,10 @@ fn filed_if<D: Readable>(
     }
 }
 
-/// The form and the record that the command names, as far as they are there.
+/// Returns those that exist of the form and the record that the command names.
 ///
 /// # Errors
-/// The store refused, a row is none that this program writes, or memory ran out.
+/// The store failed, a row isn't one that this program could have written, or memory ran out.
 pub fn things_at<D: Readable>(
     alloc: Global,
     conn: &mut D,

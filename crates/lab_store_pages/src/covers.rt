@@ -1,4 +1,4 @@
-//! Which record it is: its own row, and all of it but its versions.
+//! A record without its versions: its own row, and its form.
 
 ghost use Rattle.std.specs.Prelude.{◌≡◌, IfSome};
 ghost use Rattle.lab_store_read_forms.specs.Readable.{HasFormAt};
@@ -16,7 +16,7 @@ use lab_store_read_forms::form_at;
 use lab_store_read_records::{LabHead, RecordHead, record_at};
 use std::alloc::Global;
 
-/// A record without its versions, and which version of a form it is filled in by.
+/// A record without its versions, and the id of the version of a form that it follows.
 #[derive(Drop)]
 pub struct Cover {
     /// The id of the version of the form.
@@ -25,10 +25,10 @@ pub struct Cover {
     pub kept: Record,
 }
 
-/// The own row of the record of the number, where the laboratory has one.
+/// Returns the own row of the record with the number, if the laboratory has one.
 ///
 /// # Errors
-/// The store refused, a row is none that this program writes, or memory ran out.
+/// The store failed, a row isn't one that this program could have written, or memory ran out.
 pub fn head_in<D: Readable>(
     alloc: Global,
     conn: &mut D,
@@ -82,7 +82,7 @@ fn first_cover<D: Readable>(
     Ok(Cover { form, kept })
 }
 
-// The record of the row without its versions, by the form of the one before it.
+// The record of the row without its versions, with the form of the record before it.
 fn same_cover(alloc: Global, before: Cover, head: RecordHead) -> Cover
     ensures { result ≡ record { form = before.form; kept = cover_of head before.kept.form } }
 {
@@ -93,7 +93,8 @@ fn same_cover(alloc: Global, before: Cover, head: RecordHead) -> Cover
     cover
 }
 
-// The record of the row without its versions: its form is read, where it isn't that of the one before it.
+// The record of the row without its versions. Its form is read unless it is the form of the record
+// before it.
 fn cover_after<D: Readable>(
     alloc: Global,
     conn: &mut D,
@@ -111,11 +112,11 @@ fn cover_after<D: Readable>(
     first_cover(alloc, conn, head)
 }
 
-/// The record of the row without its versions: its form is read, where it isn't that of the one
-/// before it.
+/// Returns the record of the row without its versions. Its form is read unless it is the form of
+/// the record before it.
 ///
 /// # Errors
-/// The store refused, a row is none that this program writes, or memory ran out.
+/// The store failed, a row isn't one that this program could have written, or memory ran out.
 pub fn cover_behind<D: Readable>(
     alloc: Global,
     conn: &mut D,

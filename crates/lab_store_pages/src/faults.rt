@@ -6,7 +6,7 @@ ghost use Rattle.lab_records_walks.specs.Faults.{CopyFaultFits, keeper_told};
 use lab_records_walks::CopyOutFault;
 use lab_store_columns::ReadFault;
 
-/// What is told of a copy whose page wasn't read: what a keeper's fault is told as.
+/// Returns the fault of a copy whose page wasn't read: the one that stands for the keeper's fault.
 pub fn page_fault(fault: ReadFault) -> CopyOutFault
     ensures told { result ≡ keeper_told fault }
     ensures fits { CopyFaultFits ⊥ (Unit {0}) ⊥ result }

@@ -1,4 +1,4 @@
-//! What is written of a record: its own row, and the rows of a version, read out of the tables.
+//! What is written of a record: its own row, and the rows of a version, read from the tables.
 
 ghost use Rattle.std.specs.Prelude.{◌≡◌, is_some, IfErr, IfOk, IsFalse, OnOk};
 ghost use Rattle.sqlite.specs.State.{HasCleanDisk, IsUnchanged};
@@ -27,8 +27,7 @@ use std::io::Write;
 /// Writes a record's own row.
 ///
 /// # Errors
-/// That memory ran out, and a write that failed or took no byte. The front of the row's text went
-/// out.
+/// Memory ran out, or a write failed or took no byte. The front of the row's text was written.
 pub fn give_cover<W: Write>(
     alloc: Global,
     lab: &LabCode,
@@ -69,8 +68,8 @@ fn give_version<W: Write>(
     Ok(())
 }
 
-// Writes the rows of the version that its own rows tell, behind one of the digest or none, and
-// answers it.
+// Writes the rows of the version that its own rows show, after a version with the digest or as the
+// first one, and returns this version.
 fn give_leaf<W: Write>(
     alloc: Global,
     lab: &LabCode,
@@ -99,11 +98,12 @@ fn give_leaf<W: Write>(
     Ok(version)
 }
 
-/// Writes the rows of the version with the row, behind one of the digest or none, and answers it.
+/// Writes the rows of the version with the row, after a version with the digest or as the first
+/// one, and returns this version.
 ///
 /// # Errors
-/// The store's refusal, that memory ran out, and a write that failed or took no byte. The front of
-/// the rows' text went out, and the tables are as they were.
+/// The store failed, memory ran out, or a write failed or took no byte. The front of the rows' text
+/// was written, and the tables are unchanged.
 pub fn give_page<D: Readable, W: Write>(
     alloc: Global,
     conn: &mut D,

@@ -1,5 +1,5 @@
-//! A record's rows on their way out of the tables: each version is read, its rows go out, and it is
-//! let go.
+//! The copying of a record's rows from the tables: each version is read, its rows are written, and
+//! it is dropped.
 
 ghost use Rattle.std.specs.Prelude.{◌≡◌, ◌≤◌, None, Some, [], ◌∷◌, ◌++◌, false, map, option_map, IfErr, IfOk, IfSome, IsTrue, OnOk, option_to_list};
 ghost use Rattle.sqlite.specs.State.{HasCleanDisk, IsUnchanged};
@@ -48,8 +48,8 @@ fn digest_behind(
     }
 }
 
-// Writes the rows of the versions with the rows, each behind the digest of the one before it, which
-// is made once another version follows, and before that one is read.
+// Writes the rows of the versions with the rows, each after the digest of the version before it. A
+// digest is made only if another version follows, and before that version is read.
 fn give_pages<D: Readable, W: Write>(
     alloc: Global,
     conn: &mut D,
@@ -119,7 +119,7 @@ fn give_versions<D: Readable, W: Write>(
     }
 }
 
-// Writes the rows of the record with the id: its own, and those of its versions.
+// Writes the rows of the record with the id: its own row, and the rows of its versions.
 fn give_covered<D: Readable, W: Write>(
     alloc: Global,
     conn: &mut D,
@@ -152,8 +152,8 @@ fn give_covered<D: Readable, W: Write>(
     give_versions(alloc, conn, lab, cover, kept, out, writer)
 }
 
-// Writes the rows of the record without its versions and of those, which the id leads to, and
-// answers the first for the record behind it.
+// Writes the rows of the record: its own, and those of the versions that the id leads to. Returns
+// the record without its versions, for the record after it.
 fn give_filed<D: Readable, W: Write>(
     alloc: Global,
     conn: &mut D,
@@ -189,8 +189,8 @@ fn give_filed<D: Readable, W: Write>(
     }
 }
 
-// Writes the rows of the record with the row, whose form is read where it isn't that of the one
-// before it, and answers the record without its versions.
+// Writes the rows of the record with the row, and returns the record without its versions. Its form
+// is read unless it is the form of the record before it.
 fn give_headed<D: Readable, W: Write>(
     alloc: Global,
     conn: &mut D,
@@ -227,8 +227,8 @@ fn give_headed<D: Readable, W: Write>(
     }
 }
 
-// Writes the rows of the record of the number, where the laboratory with the row has one, and
-// answers the last record without its versions, for the one behind it.
+// Writes the rows of the record with the number, if the laboratory with the row has one. Returns
+// the last record without its versions, for the record after it.
 fn give_record_at<D: Readable, W: Write>(
     alloc: Global,
     conn: &mut D,
@@ -334,14 +334,14 @@ fn give_all<D: Readable, W: Write, P: Progress>(
     Ok(())
 }
 
-/// Writes the rows of the records from a number to a last one, where there is a laboratory of the
-/// code: its row is read once, and the form of a record where it isn't that of the record before.
-/// Each version is read, and its rows go out, before the next is read. The progress is told after
-/// each number.
+/// Writes the rows of the records from a number to a last one, if a laboratory has the code. The
+/// laboratory's row is read once, and the form of a record unless it is the form of the record
+/// before. Each version is read, and its rows are written, before the next is read. The progress is
+/// reported after each number.
 ///
 /// # Errors
-/// The store's refusal, that memory ran out, and a write that failed or took no byte. The front of
-/// the rows' text went out, and the tables are as they were.
+/// The store failed, memory ran out, or a write failed or took no byte. The front of the rows' text
+/// was written, and the tables are unchanged.
 pub fn give_records_at<D: Readable, W: Write, P: Progress>(
     alloc: Global,
     conn: &mut D,

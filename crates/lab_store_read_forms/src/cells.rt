@@ -1,4 +1,4 @@
-//! One column of a row, as the type that stands in it. What is none of that type is a fault of the store, and nothing else is.
+//! One column of a row, read as its type. The only fault of the store is a value of another type.
 
 ghost use Rattle.std.specs.Prelude.{◌≡◌, IfOk, IfErr};
 ghost use Rattle.sqlite_value.specs.Order.{column, bytes};
@@ -14,7 +14,7 @@ use sqlite::Row;
 use sqlite::types::ValueRef;
 use std::alloc::Global;
 
-// The bytes of a text, which may be a bound.
+// Parses the bytes as a bound.
 fn bound_of(alloc: Global, text: &[u8]) -> Result<Bound, ReadFault>
     ensures value { IfOk result (λ bound. bound ≡ text.now) }
     ensures fault { IfErr result (IsNotMade (is_text is_any (StoredText text.now))) }
@@ -25,10 +25,10 @@ fn bound_of(alloc: Global, text: &[u8]) -> Result<Bound, ReadFault>
     }
 }
 
-/// The least or the greatest amount of a number, or none.
+/// Returns the least or the greatest amount of a number, or `None` for NULL.
 ///
 /// # Errors
-/// Neither NULL nor a text stands there, or memory ran out for it.
+/// The column holds neither NULL nor a text, or memory ran out for it.
 pub(crate) fn bound_if(alloc: Global, row: &Row, at: usize) -> Result<Option<Bound>, ReadFault>
     ensures value { IfOk result (λ bound. bound ≡ optional_in bytes (column row.now at)) }
     ensures fault { IfErr result (IsNotMade (stands (is_optional (is_text is_any)) row.now at)) }

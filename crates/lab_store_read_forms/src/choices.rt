@@ -1,4 +1,4 @@
-//! Names among which a value is chosen.
+//! The names of a choice.
 
 ghost use Rattle.std.specs.Prelude.{◌≡◌, [], map, All, IfOk, IfErr, if◌then◌else◌};
 ghost use Rattle.lab_store_tables.specs.Meaning.{names_of};
@@ -40,10 +40,10 @@ fn names_of_rows(alloc: Global, rows: &[Row]) -> Result<Vec<Name>, ReadFault>
     Ok(made)
 }
 
-/// The names of the choice with the id, in the order of their places.
+/// Returns the names of the choice with the id, in the order of their places.
 ///
 /// # Errors
-/// The store refused, a row is none that this program writes, or memory ran out.
+/// The store failed, a row isn't one that this program could have written, or memory ran out.
 pub fn names_at<D: Readable>(
     alloc: Global,
     conn: &mut D,
@@ -58,10 +58,10 @@ pub fn names_at<D: Readable>(
     names_of_rows(alloc, &rows)
 }
 
-/// The names of the field with the id where they are wanted, and no name elsewhere.
+/// Returns the names of the field with the id if they are wanted, and otherwise no names.
 ///
 /// # Errors
-/// The store refused, a row is none that this program writes, or memory ran out.
+/// The store failed, a row isn't one that this program could have written, or memory ran out.
 pub fn names_if<D: Readable>(
     alloc: Global,
     conn: &mut D,

@@ -100,7 +100,7 @@ fn field_whole<D: Readable>(
     })
 }
 
-// The field with the row, behind others.
+// Adds the field with the row after the others.
 fn add_field<D: Readable>(
     alloc: Global,
     conn: &mut D,
@@ -117,7 +117,7 @@ fn add_field<D: Readable>(
     Ok(())
 }
 
-// The fields with the rows, behind others.
+// Adds the fields with the rows after the others.
 fn add_fields<D: Readable>(
     alloc: Global,
     conn: &mut D,
@@ -136,10 +136,11 @@ fn add_fields<D: Readable>(
     Ok(())
 }
 
-/// The fields of the version of a form with the id, in the order of their places, with their choices.
+/// Returns the fields of the version of a form with the id, in the order of their places, with
+/// their choices.
 ///
 /// # Errors
-/// The store refused, a row is none that this program writes, or memory ran out.
+/// The store failed, a row isn't one that this program could have written, or memory ran out.
 pub fn fields_at<D: Readable>(
     alloc: Global,
     conn: &mut D,

@@ -1,4 +1,4 @@
-//! Records, whole, by what a request names.
+//! Whole records, by what a request names.
 
 ghost use Rattle.std.specs.Prelude.{◌≡◌, [], ◌∷◌, ◌++◌, map, option_map, All, IfSome};
 ghost use Rattle.lab_records_kept.specs.Lookups.{record_of, record_about};
@@ -21,7 +21,7 @@ use lab_store_columns::{ReadFault, Readable};
 use lab_store_read_records::{RecordHead, record_about, record_at, records_within};
 use std::alloc::Global;
 
-// The record of the row, where there is one.
+// The record of the row, if there is a row.
 fn record_if<D: Readable>(
     alloc: Global,
     conn: &mut D,
@@ -42,10 +42,10 @@ fn record_if<D: Readable>(
     }
 }
 
-/// The record of the number, whole, in the laboratory with the code, whose row has the id.
+/// Returns the whole record with the number, in the laboratory with the code, whose row has the id.
 ///
 /// # Errors
-/// The store refused, a row is none that this program writes, or memory ran out.
+/// The store failed, a row isn't one that this program could have written, or memory ran out.
 pub fn numbered_at<D: Readable>(
     alloc: Global,
     conn: &mut D,
@@ -62,10 +62,11 @@ pub fn numbered_at<D: Readable>(
     record_if(alloc, conn, code, head)
 }
 
-/// The record by the form about the sample, whole, in the laboratory with the code, whose row has the id.
+/// Returns the whole record with the form and the sample, in the laboratory with the code, whose
+/// row has the id.
 ///
 /// # Errors
-/// The store refused, a row is none that this program writes, or memory ran out.
+/// The store failed, a row isn't one that this program could have written, or memory ran out.
 pub fn about_at<D: Readable>(
     alloc: Global,
     conn: &mut D,
@@ -85,7 +86,7 @@ pub fn about_at<D: Readable>(
     record_if(alloc, conn, code, head)
 }
 
-// The record of the row and the form, behind others.
+// Adds the record of the row and the form after the others.
 fn add_formed<D: Readable>(
     alloc: Global,
     conn: &mut D,
@@ -105,7 +106,8 @@ fn add_formed<D: Readable>(
     Ok(())
 }
 
-// The record of the row, behind others, and its form: that is read, where it isn't the one before.
+// Adds the record of the row after the others. Its form is read unless it is the form of the record
+// before.
 fn add_record<D: Readable>(
     alloc: Global,
     conn: &mut D,
@@ -126,7 +128,8 @@ fn add_record<D: Readable>(
     Ok(found)
 }
 
-// The records of the rows, behind others. A form is read where it isn't that of the record before.
+// Adds the records of the rows after the others. A form is read unless it is the form of the record
+// before.
 fn add_records<D: Readable>(
     alloc: Global,
     conn: &mut D,
@@ -148,11 +151,12 @@ fn add_records<D: Readable>(
     Ok(())
 }
 
-/// The records from a number to a number, whole, in the laboratory with the code, whose row has the id, in the order of the
-/// numbers. A form is read where it isn't that of the record before it.
+/// Returns the whole records with a number in the range, in the laboratory with the code, whose row
+/// has the id, in the order of the numbers. A form is read unless it is the form of the record
+/// before.
 ///
 /// # Errors
-/// The store refused, a row is none that this program writes, or memory ran out.
+/// The store failed, a row isn't one that this program could have written, or memory ran out.
 pub fn filed_within<D: Readable>(
     alloc: Global,
     conn: &mut D,

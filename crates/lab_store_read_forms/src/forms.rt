@@ -35,10 +35,10 @@ fn form_rows<D: Readable>(conn: &mut D, id: i64) -> Result<Vec<Row>, ReadFault>
     )
 }
 
-/// The version of a form that a row shows.
+/// Returns the version of a form that a row shows.
 ///
 /// # Errors
-/// The store refused, a row is none that this program writes, or memory ran out.
+/// The store failed, a row isn't one that this program could have written, or memory ran out.
 pub fn form_of_row(alloc: Global, row: &Row) -> Result<FormHead, ReadFault>
     ensures value { IfOk result (λ form. form ≡ form_read row.now) }
     ensures fault { IfErr result (λ fault. fault ≡ storage → ¬ HasForm row.now) }
@@ -55,10 +55,10 @@ pub fn form_of_row(alloc: Global, row: &Row) -> Result<FormHead, ReadFault>
     })
 }
 
-/// The version of a form that the first row shows.
+/// Returns the version of a form that the first row shows.
 ///
 /// # Errors
-/// The store refused, a row is none that this program writes, or memory ran out.
+/// The store failed, a row isn't one that this program could have written, or memory ran out.
 pub fn first_form(alloc: Global, rows: &[Row]) -> Result<Option<FormHead>, ReadFault>
     ensures value { IfOk result (λ form. form ≡ option_map form_read (slice_get rows.now 0)) }
     ensures fault { IfErr result (λ fault. fault ≡ storage → ¬ HasFirst HasForm rows.now) }
@@ -84,7 +84,7 @@ fn form_head_at<D: Readable>(
     first_form(alloc, &rows)
 }
 
-// The form of the fields. That they make none is a fault of the store.
+// The form with the fields. It is a fault of the store if they make no form.
 fn form_made(fields: Vec<Field>, approval: bool) -> Result<Form, ReadFault>
     ensures value { IfOk result
         (λ form. form ≡ record { fields = fields.items; approval = approval }) }
@@ -96,10 +96,11 @@ fn form_made(fields: Vec<Field>, approval: bool) -> Result<Form, ReadFault>
     }
 }
 
-/// The version of a form that has the row, with its fields. Fields that no form may have are a fault of the store.
+/// Returns the version of a form that has the row, with its fields. It is a fault of the store if
+/// no form may have these fields.
 ///
 /// # Errors
-/// The store refused, a row is none that this program writes, or memory ran out.
+/// The store failed, a row isn't one that this program could have written, or memory ran out.
 pub fn form_whole<D: Readable>(
     alloc: Global,
     conn: &mut D,
@@ -119,10 +120,11 @@ pub fn form_whole<D: Readable>(
     })
 }
 
-/// The version of a form with the id, with its fields. That there is none is a fault of the store.
+/// Returns the version of a form with the id, with its fields. It is a fault of the store if there
+/// is none.
 ///
 /// # Errors
-/// The store refused, a row is none that this program writes, or memory ran out.
+/// The store failed, a row isn't one that this program could have written, or memory ran out.
 pub fn form_at<D: Readable>(alloc: Global, conn: &mut D, id: i64) -> Result<FormVersion, ReadFault>
     ensures reads { Reads (λ t form. form ≡ form_at t id)
         (D.state conn.old) (D.state conn.new) result }

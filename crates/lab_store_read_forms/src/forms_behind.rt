@@ -1,5 +1,5 @@
-//! The version of a form by which a record of a list is filled in: it is read where it isn't that of
-//! the record before.
+//! The version of a form that a record of a list follows: it is read unless it is the form of the
+//! record before.
 
 ghost use Rattle.std.specs.Prelude.{◌≡◌, IfSome};
 ghost use Rattle.lab_store_columns.specs.Causes.{HasItsCause};
@@ -22,7 +22,7 @@ fn form_with_id<D: Readable>(alloc: Global, conn: &mut D, id: i64) -> Result<For
     Ok(FormAt { id, form })
 }
 
-// The version of a form with the id: it is read, where it isn't the one before.
+// The version of a form with the id. It is read unless it is the one before.
 fn form_after<D: Readable>(
     alloc: Global,
     conn: &mut D,
@@ -39,10 +39,10 @@ fn form_after<D: Readable>(
     form_with_id(alloc, conn, id)
 }
 
-/// The version of a form with the id: it is read, where it isn't the one before.
+/// Returns the version of a form with the id. Reads it unless it is the one before.
 ///
 /// # Errors
-/// The store refused, a row is none that this program writes, or memory ran out.
+/// The store failed, a row isn't one that this program could have written, or memory ran out.
 pub(crate) fn form_behind<D: Readable>(
     alloc: Global,
     conn: &mut D,

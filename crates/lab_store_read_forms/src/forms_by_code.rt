@@ -41,7 +41,8 @@ fn exact_rows<D: Readable>(
     )
 }
 
-// The rows of the versions of the form, in the laboratory with the id, in the order of their numbers.
+// The rows of the versions of the form, in the laboratory with the id, in the order of their
+// numbers.
 fn form_version_rows<D: Readable>(conn: &mut D, lab: i64, code: &str) -> Result<Vec<Row>, ReadFault>
     ensures reads { Reads (λ t rows. rows.items ≡ form_versions_shown t lab code.now)
         (D.state conn.old) (D.state conn.new) result }
@@ -66,7 +67,7 @@ fn last_form_of(alloc: Global, rows: &[Row]) -> Result<Option<FormHead>, ReadFau
     }
 }
 
-// The version of a form that has the row, where there is one.
+// The version of a form that has the row, if there is a row.
 fn form_if<D: Readable>(
     alloc: Global,
     conn: &mut D,
@@ -86,10 +87,10 @@ fn form_if<D: Readable>(
     }
 }
 
-/// The version of the form that has the number, in the laboratory with the id.
+/// Returns the version of the form that has the number, in the laboratory with the id.
 ///
 /// # Errors
-/// The store refused, a row is none that this program writes, or memory ran out.
+/// The store failed, a row isn't one that this program could have written, or memory ran out.
 pub fn exact_form_at<D: Readable>(
     alloc: Global,
     conn: &mut D,
@@ -108,10 +109,10 @@ pub fn exact_form_at<D: Readable>(
     form_if(alloc, conn, head)
 }
 
-/// The last version of the form, in the laboratory with the id.
+/// Returns the last version of the form, in the laboratory with the id.
 ///
 /// # Errors
-/// The store refused, a row is none that this program writes, or memory ran out.
+/// The store failed, a row isn't one that this program could have written, or memory ran out.
 pub fn last_form_at<D: Readable>(
     alloc: Global,
     conn: &mut D,

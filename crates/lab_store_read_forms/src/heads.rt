@@ -1,4 +1,4 @@
-//! Rows as they are read, each by its id.
+//! Rows as they are read, each with its id.
 
 use lab_forms::Kind;
 use lab_forms_texts::{Key, Name, Ordinal};
@@ -9,15 +9,15 @@ use lab_records_kept::FormVersion;
 pub struct FormHead {
     /// The row's id.
     pub id: i64,
-    /// By what the form is known.
+    /// The code of the form.
     pub code: Key,
     /// The number of the version.
     pub version: Ordinal,
-    /// Whether what it records wants a third person's approval.
+    /// Whether its records need a third person's approval.
     pub approval: bool,
 }
 
-/// A version of a form by the id of its row.
+/// A version of a form, with the id of its row.
 #[derive(Drop)]
 pub struct FormAt {
     /// The row's id.
@@ -31,12 +31,12 @@ pub struct FormAt {
 pub struct FieldHead {
     /// The row's id.
     pub id: i64,
-    /// By what it is known in its form.
+    /// The key of the field in its form.
     pub key: Key,
-    /// What people read beside it.
+    /// The label that people read beside the field.
     pub label: Name,
-    /// Whether a record has to have a value of it before it is signed.
+    /// Whether a record must have a value for the field before it is signed.
     pub required: bool,
-    /// What it takes; a choice has no names yet.
+    /// The values that the field takes; a choice has no names yet.
     pub kind: Kind,
 }

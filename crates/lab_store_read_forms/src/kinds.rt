@@ -1,4 +1,4 @@
-//! What a field takes, from the columns of its row.
+//! The values that a field takes, read from the columns of its row.
 
 ghost use Rattle.std.specs.Prelude.{◌≡◌, [], IfOk, IfErr, unwrap_or};
 ghost use Rattle.lab_store_tables.specs.Columns.{kind_in};
@@ -48,7 +48,8 @@ fn text_of_row(row: &Row) -> Result<Kind, ReadFault>
     }
 }
 
-// What a field takes, by its word and the other columns. A word that none is written as is a fault of the store.
+// The values that a field takes, by its word and the other columns. It is a fault of the store if
+// the word is of no kind.
 fn kind_by(alloc: Global, row: &Row, word: &str) -> Result<Kind, ReadFault>
     ensures value { IfOk result
         (λ kind. kind ≡ kind_in (record (kind_cells row.now) { word = word.now }) []) }
@@ -66,10 +67,10 @@ fn kind_by(alloc: Global, row: &Row, word: &str) -> Result<Kind, ReadFault>
     }
 }
 
-/// What the field takes whose row it is; a choice has no names yet.
+/// Returns the values that the field with this row takes; a choice has no names yet.
 ///
 /// # Errors
-/// The store refused, a row is none that this program writes, or memory ran out.
+/// The store failed, a row isn't one that this program could have written, or memory ran out.
 pub fn kind_of_row(alloc: Global, row: &Row) -> Result<Kind, ReadFault>
     ensures value { IfOk result (λ kind. kind ≡ kind_in (kind_cells row.now) []) }
     ensures fault { IfErr result (λ fault. fault ≡ storage → ¬ HasKind row.now) }
@@ -78,7 +79,7 @@ pub fn kind_of_row(alloc: Global, row: &Row) -> Result<Kind, ReadFault>
     kind_by(alloc, row, word.as_str())
 }
 
-/// Whether a value is chosen among names.
+/// Returns whether a field's value is chosen among names.
 pub fn is_choice(kind: &Kind) -> bool
     ensures { result ≡ is_choice kind.now }
 {
@@ -88,7 +89,7 @@ pub fn is_choice(kind: &Kind) -> bool
     }
 }
 
-/// The kind with the names, where it is a choice.
+/// Returns the kind, with the names if it is a choice.
 pub fn kind_with(kind: Kind, names: Vec<Name>) -> Kind
     ensures { result ≡ kind_with kind names.items }
 {

@@ -1,5 +1,5 @@
-//! What the tables of a file say of the versions of a form, and of the forms and records that a request
-//! names, whole (ISO/IEC 17025:2017, 8.4.2; 21 CFR 11.10(c)). Nothing is written.
+//! What the tables of a file say about the versions of a form, and about the whole forms and
+//! records that a request names (ISO/IEC 17025:2017, 8.4.2; 21 CFR 11.10(c)). Nothing is written.
 #![tactic(auto)]
 
 mod asking;

@@ -17,7 +17,7 @@ use lab_store_columns::{ReadFault, Readable};
 use lab_store_read_records::{RecordHead, VersionLeaf, chain, leaves_at};
 use std::alloc::Global;
 
-// The record of the row, the form and the versions.
+// The record made of the row, the form and the versions.
 fn record_with(
     alloc: Global,
     lab: &LabCode,
@@ -41,10 +41,11 @@ fn record_with(
     Ok(FoundRecord::chained(cover, code))
 }
 
-/// The record of the row and the form, of the laboratory with the code, with all its versions.
+/// Returns the record of the row and the form, of the laboratory with the code, with all its
+/// versions.
 ///
 /// # Errors
-/// The store refused, a row is none that this program writes, or memory ran out.
+/// The store failed, a row isn't one that this program could have written, or memory ran out.
 pub(crate) fn record_by_form<D: Readable>(
     alloc: Global,
     conn: &mut D,
@@ -61,10 +62,11 @@ pub(crate) fn record_by_form<D: Readable>(
     record_with(alloc, lab, head, form, leaves)
 }
 
-/// The record with the row, of the laboratory with the code, with its form and all its versions.
+/// Returns the record with the row, of the laboratory with the code, with its form and all its
+/// versions.
 ///
 /// # Errors
-/// The store refused, a row is none that this program writes, or memory ran out.
+/// The store failed, a row isn't one that this program could have written, or memory ran out.
 pub fn record_whole<D: Readable>(
     alloc: Global,
     conn: &mut D,

@@ -1,4 +1,4 @@
-//! One column of a row, as the type that stands in it. What is none of that type is a fault of the store, and nothing else is.
+//! One column of a row, read as its type. The only fault of the store is a value of another type.
 
 ghost use Rattle.std.specs.Prelude.{◌≡◌, Some, [], IfOk, IfErr, unwrap_or, slice_get};
 ghost use Rattle.sqlite_value.specs.Order.{column, bytes};
@@ -13,10 +13,10 @@ use lab_store_columns::{BadStore, ReadFault};
 use sqlite::Row;
 use sqlite::types::ValueRef;
 
-/// A moment, or none.
+/// Returns the moment in a column, or `None` for NULL.
 ///
 /// # Errors
-/// Neither NULL nor a moment stands there.
+/// The column holds neither NULL nor a moment.
 pub(crate) fn moment_if(row: &Row, at: usize) -> Result<Option<Moment>, ReadFault>
     ensures value { IfOk result (λ moment. moment ≡ optional_in number_in (column row.now at)) }
     ensures shown { IfOk result (λ moment. slice_get row.now at ≡ Some (optional number moment)) }
@@ -30,10 +30,10 @@ pub(crate) fn moment_if(row: &Row, at: usize) -> Result<Option<Moment>, ReadFaul
     }
 }
 
-/// A moment that this row has to have.
+/// Returns the moment in a column that this row must fill.
 ///
 /// # Errors
-/// No moment stands there.
+/// The column holds no moment.
 pub(crate) fn moment_due(row: &Row, at: usize) -> Result<Moment, ReadFault>
     ensures value { IfOk result
         (λ moment. moment ≡ unwrap_or (optional_in number_in (column row.now at)) 0) }
@@ -45,10 +45,10 @@ pub(crate) fn moment_due(row: &Row, at: usize) -> Result<Moment, ReadFault>
     }
 }
 
-/// A number that this row has to have.
+/// Returns the number in a column that this row must fill.
 ///
 /// # Errors
-/// No number of at most 32 bits stands there.
+/// The column holds no number of at most 32 bits.
 pub(crate) fn small_due(row: &Row, at: usize) -> Result<u32, ReadFault>
     ensures value { IfOk result
         (λ count. count ≡ unwrap_or (optional_in number_in (column row.now at)) 0) }
@@ -61,10 +61,10 @@ pub(crate) fn small_due(row: &Row, at: usize) -> Result<u32, ReadFault>
     }
 }
 
-/// A salt that this row has to have.
+/// Returns the salt in a column that this row must fill.
 ///
 /// # Errors
-/// No 16 bytes stand there.
+/// The column doesn't hold 16 bytes.
 pub(crate) fn salt_due(row: &Row, at: usize) -> Result<[u8; 16], ReadFault>
     ensures value { IfOk result
         (λ salt. salt ≡ unwrap_or (optional_in bytes (column row.now at)) []) }
@@ -79,10 +79,10 @@ pub(crate) fn salt_due(row: &Row, at: usize) -> Result<[u8; 16], ReadFault>
     }
 }
 
-/// 32 bytes that this row has to have.
+/// Returns the 32 bytes in a column that this row must fill.
 ///
 /// # Errors
-/// No 32 bytes stand there.
+/// The column doesn't hold 32 bytes.
 pub(crate) fn bytes_due(row: &Row, at: usize) -> Result<[u8; 32], ReadFault>
     ensures value { IfOk result
         (λ made. made ≡ unwrap_or (optional_in bytes (column row.now at)) []) }

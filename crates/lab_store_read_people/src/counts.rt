@@ -1,4 +1,4 @@
-//! How many persons a laboratory has.
+//! The number of persons in a laboratory.
 
 ghost use Rattle.std.specs.Prelude.{◌≡◌, ◌<◌, Some, length, slice_get, option_and_then, IfOk, IfErr};
 ghost use Rattle.lab_store_tables.specs.Rows.{number};
@@ -22,7 +22,8 @@ fn count_rows<D: Readable>(conn: &mut D, lab: i64) -> Result<Vec<Row>, ReadFault
     rows_by_one(conn, "SELECT count(*) FROM persons WHERE lab = ?1", lab)
 }
 
-// The number that a row shows first. One of more than 32 bits counts rows that no memory holds.
+// The first number in a row. A number of more than 32 bits would count rows that no memory can
+// hold.
 fn number_of(row: &Row) -> Result<u64, ReadFault>
     ensures value { IfOk result (λ many.
         (many < 4294967296) × (slice_get row.now 0 ≡ Some (number many))) }
@@ -34,7 +35,7 @@ fn number_of(row: &Row) -> Result<u64, ReadFault>
     }
 }
 
-// The number that the first row shows first.
+// The first number in the first row.
 fn first_number(rows: &[Row]) -> Result<u64, ReadFault>
     ensures value { IfOk result (λ many. (many < 4294967296)
         × (option_and_then (λ row. slice_get row 0) (slice_get rows.now 0) ≡ Some (number many))) }
@@ -46,10 +47,10 @@ fn first_number(rows: &[Row]) -> Result<u64, ReadFault>
     }
 }
 
-/// How many persons the laboratory with the id has.
+/// Returns how many persons the laboratory with the id has.
 ///
 /// # Errors
-/// The store refused, a row is none that this program writes, or memory ran out.
+/// The store failed, a row isn't one that this program could have written, or memory ran out.
 pub fn person_count<D: Readable>(conn: &mut D, lab: i64) -> Result<u64, ReadFault>
     ensures reads { Reads (λ t count. count ≡ length (persons_of t lab))
         (D.state conn.old) (D.state conn.new) result }

@@ -1,4 +1,4 @@
-//! Persons, as their own rows tell it.
+//! Persons, as their own rows show them.
 
 use lab_forms_texts::{Moment, Name, PersonCode};
 use lab_people_access::{Password, Roles};
@@ -7,11 +7,11 @@ use lab_seal_hashes::Verifier;
 /// What an administrator asked for, with the id of that administrator's row.
 #[derive(Clone, Copy)]
 pub struct AskHead {
-    /// Whose row asked.
+    /// The id of the row of the person who asked.
     pub asker: i64,
-    /// When.
+    /// The moment of the asking.
     pub asked: Moment,
-    /// By which the first half is known again.
+    /// The verifier that recognizes the first half.
     pub first: Verifier,
 }
 
@@ -22,7 +22,7 @@ pub struct PersonHead {
     pub code: PersonCode,
     /// The printed name.
     pub name: Name,
-    /// What the person may be.
+    /// The person's roles.
     pub roles: Roles,
     /// Whether the person has left.
     pub retired: bool,

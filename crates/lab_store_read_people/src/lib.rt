@@ -1,5 +1,5 @@
-//! What the tables of a file say of the persons of a laboratory, their accounts and their sessions (21 CFR
-//! 11.10(d), (g)). Nothing is written.
+//! What the tables of a file say about the persons of a laboratory, their accounts and their
+//! sessions (21 CFR 11.10(d), (g)). Nothing is written.
 #![tactic(auto)]
 
 mod asking;

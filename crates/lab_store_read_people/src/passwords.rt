@@ -1,4 +1,5 @@
-//! What is kept of a password, what was asked for, and roles, from the columns of a person's row.
+//! What is kept of a password, what an administrator asked for, and the roles, read from the
+//! columns of a person's row.
 
 ghost use Rattle.std.specs.Prelude.{◌≡◌, true, IfOk, IfErr, unwrap_or};
 ghost use Rattle.sqlite_value.specs.Order.{column, bytes};
@@ -19,7 +20,7 @@ use lab_store_columns::cells::{id_if, small_of};
 use lab_store_columns::{BadStore, ReadFault};
 use sqlite::Row;
 
-/// The roles whose sum it is.
+/// Returns the roles that a sum stands for.
 pub(crate) fn roles_of(sum: u32) -> Roles
     ensures { result ≡ roles_in sum }
 {
@@ -32,7 +33,8 @@ pub(crate) fn roles_of(sum: u32) -> Roles
     }
 }
 
-// The verifier whose parts stand in three columns. It has rounds by which verifiers are or were made.
+// The verifier whose parts stand in three columns. Its number of rounds must be one with which this
+// program makes or made verifiers.
 fn verifier_of(row: &Row, salt: usize, rounds: usize, made: usize) -> Result<Verifier, ReadFault>
     ensures known { IfOk result (λ verifier. are_rounds verifier.rounds ≡ true) }
     ensures parts { IfOk result (λ verifier. verifier
@@ -51,7 +53,7 @@ fn verifier_of(row: &Row, salt: usize, rounds: usize, made: usize) -> Result<Ver
     Ok(Verifier::from_parts(salt, rounds, made))
 }
 
-// A password that was chosen.
+// A password that its person chose.
 fn chosen_of_row(row: &Row) -> Result<Password, ReadFault>
     ensures value { let cells = password_cells row.now in IfOk result (λ password. password
         ≡ Chosen (verifier_in cells.salt cells.rounds cells.bytes) (unwrap_or cells.changed 0)) }
@@ -79,10 +81,10 @@ fn one_time_of_row(row: &Row) -> Result<Password, ReadFault>
     })
 }
 
-/// What is kept of the password of the person whose row it is.
+/// Returns what is kept of the password of the person with this row.
 ///
 /// # Errors
-/// The store refused, a row is none that this program writes, or memory ran out.
+/// The store failed, a row isn't one that this program could have written, or memory ran out.
 pub(crate) fn password_of_row(row: &Row) -> Result<Password, ReadFault>
     ensures value { IfOk result (λ password. password ≡ password_in (password_cells row.now)) }
     ensures fault { IfErr result (λ fault. fault ≡ storage → ¬ HasPassword row.now) }
@@ -99,10 +101,10 @@ pub(crate) fn password_of_row(row: &Row) -> Result<Password, ReadFault>
     }
 }
 
-/// What an administrator asked for.
+/// Returns what an administrator asked for.
 ///
 /// # Errors
-/// The store refused, a row is none that this program writes, or memory ran out.
+/// The store failed, a row isn't one that this program could have written, or memory ran out.
 pub(crate) fn ask_of_row(row: &Row) -> Result<Option<AskHead>, ReadFault>
     ensures value { IfOk result (λ ask. ask ≡ ask_head (ask_cells row.now)) }
     ensures fault { IfErr result (λ fault. fault ≡ storage → ¬ HasAsk row.now) }

@@ -97,7 +97,7 @@ fn persons_of_rows(alloc: Global, rows: &[Row]) -> Result<Vec<PersonHead>, ReadF
     Ok(made)
 }
 
-// What was asked for, with the code of whoever asked.
+// What was asked for, with the code of the person who asked.
 fn ask_whole<D: Readable>(
     alloc: Global,
     conn: &mut D,
@@ -145,7 +145,7 @@ fn person_whole<D: Readable>(
     })
 }
 
-// The person of the row, where there is one.
+// The person of the row, if there is a row.
 fn person_if<D: Readable>(
     alloc: Global,
     conn: &mut D,
@@ -165,7 +165,7 @@ fn person_if<D: Readable>(
     }
 }
 
-// The person of the row, behind others.
+// Adds the person of the row after the others.
 fn add_person<D: Readable>(
     alloc: Global,
     conn: &mut D,
@@ -182,7 +182,7 @@ fn add_person<D: Readable>(
     Ok(())
 }
 
-// The persons of the rows, behind others.
+// Adds the persons of the rows after the others.
 fn add_persons<D: Readable>(
     alloc: Global,
     conn: &mut D,
@@ -216,10 +216,10 @@ fn person_heads_at<D: Readable>(
     persons_of_rows(alloc, &rows)
 }
 
-/// The person who has or had the code, in the laboratory with the id.
+/// Returns the person who has or had the code, in the laboratory with the id.
 ///
 /// # Errors
-/// The store refused, a row is none that this program writes, or memory ran out.
+/// The store failed, a row isn't one that this program could have written, or memory ran out.
 pub fn person_at<D: Readable>(
     alloc: Global,
     conn: &mut D,
@@ -236,10 +236,10 @@ pub fn person_at<D: Readable>(
     person_if(alloc, conn, head)
 }
 
-/// The persons of the laboratory with the id, in the order of their codes.
+/// Returns the persons of the laboratory with the id, in the order of their codes.
 ///
 /// # Errors
-/// The store refused, a row is none that this program writes, or memory ran out.
+/// The store failed, a row isn't one that this program could have written, or memory ran out.
 pub fn persons_at<D: Readable>(
     alloc: Global,
     conn: &mut D,

@@ -65,10 +65,10 @@ fn first_session(alloc: Global, rows: &[Row]) -> Result<Option<Session>, ReadFau
     }
 }
 
-/// The session whose token has the digest, open or closed, in the laboratory with the id.
+/// Returns the session whose token has the digest, open or closed, in the laboratory with the id.
 ///
 /// # Errors
-/// The store refused, a row is none that this program writes, or memory ran out.
+/// The store failed, a row isn't one that this program could have written, or memory ran out.
 pub fn session_at<D: Readable>(
     alloc: Global,
     conn: &mut D,

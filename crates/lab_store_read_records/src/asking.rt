@@ -1,4 +1,4 @@
-//! Queries, by what they ask with.
+//! Queries, by the kinds of their parameters.
 
 ghost use Rattle.std.specs.Prelude.{pos, [], ◌∷◌};
 ghost use Rattle.sqlite_value.specs.declared.value.Value.TheVariants.{Int};
@@ -10,7 +10,7 @@ use sqlite::{Row, params};
 /// The rows of a query with an id and a number.
 ///
 /// # Errors
-/// The store refused, or memory ran out.
+/// The store failed, or memory ran out.
 pub(crate) fn rows_by_two<D: Readable>(
     conn: &mut D,
     sql: &str,

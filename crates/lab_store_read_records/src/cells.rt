@@ -1,4 +1,4 @@
-//! One column of a row, as the type that stands in it. What is none of that type is a fault of the store, and nothing else is.
+//! One column of a row, read as its type. The only fault of the store is a value of another type.
 
 ghost use Rattle.std.specs.Prelude.{◌≡◌, IfOk, IfErr};
 ghost use Rattle.sqlite_value.specs.Order.{column};
@@ -10,10 +10,10 @@ use lab_store_columns::cells::id_of;
 use lab_store_columns::{BadStore, ReadFault};
 use sqlite::Row;
 
-/// A number that is never below zero.
+/// Returns the number in a column, which is never below zero.
 ///
 /// # Errors
-/// No such number stands there.
+/// The column holds no such number.
 pub(crate) fn count_of(row: &Row, at: usize) -> Result<u64, ReadFault>
     ensures value { IfOk result (λ count. count ≡ number_in (column row.now at)) }
     ensures fault { IfErr result (IsNotRead (stands (is_number is_count) row.now at)) }

@@ -1,4 +1,4 @@
-//! Versions of a record, each of which amends the one before it as that is now.
+//! The versions of a record, each of which amends the version before it as that version is now.
 
 ghost use Rattle.std.specs.Prelude.{◌≡◌, ◌≢◌, None, [], ◌∷◌, ◌++◌, map, false, is_some, IfOk, IfErr, IfSome, IfNone, IsFalse, IsTrue, OnOk};
 ghost use Rattle.lab_store_tables.specs.Columns.{format_in};
@@ -16,7 +16,7 @@ use lab_seal_versions::{Amendment, Format, Origin};
 use lab_store_columns::{BadStore, ReadFault};
 use std::alloc::Global;
 
-// The format of a number, where the form wants an approval or not.
+// The format with a number, for a form that requires an approval or doesn't.
 fn format_of(number: u32, approval: bool) -> Format
     ensures { result ≡ format_in number approval }
 {
@@ -27,8 +27,9 @@ fn format_of(number: u32, approval: bool) -> Format
     }
 }
 
-// Where a version comes from, whose number and reason these are, behind one of the digest or none. A first version of a
-// later number, and a later one without a reason or of the first number, come from nowhere.
+// The origin of a version with this number and reason, after a version with the digest, or as the
+// first one. `None` for a first version with a later number, and for a later version that has no
+// reason or the first number.
 fn origin_after(number: Ordinal, reason: Option<Note>, before: Option<Digest>) -> Option<Origin>
     ensures value { IfSome result (λ origin. origin ≡ origin_after number reason before) }
     ensures none { IfNone result (IsFalse (is_placed (is_some before) number reason)) }
@@ -47,8 +48,9 @@ fn origin_after(number: Ordinal, reason: Option<Note>, before: Option<Digest>) -
     }
 }
 
-/// The version that its rows make, behind a version of the digest, or as the first one. Only the parts of the record are read
-/// that aren't versions. `None` where version 1 has a version before it, or a later one has none or lacks a reason.
+/// Returns the version that its rows make, after a version with the digest, or as the first one. Of
+/// the record, reads only the parts that aren't versions. Returns `None` if version 1 has a version
+/// before it, or if a later version has none before it or has no reason.
 pub fn version_after(cover: &Record, before: Option<Digest>, leaf: VersionLeaf) -> Option<Version>
     ensures value { IfSome result
         (λ version. version ≡ version_after cover.now before (leaf_of leaf)) }
@@ -81,7 +83,7 @@ fn before_next(
     }
 }
 
-// One version more, which amends the last one.
+// Adds one more version, which amends the last one.
 fn add_version(
     alloc: Global,
     lab: &LabCode,
@@ -100,7 +102,7 @@ fn add_version(
     Ok(())
 }
 
-// All of them, behind others.
+// Adds all versions after the others.
 fn add_versions(
     alloc: Global,
     lab: &LabCode,
@@ -120,11 +122,11 @@ fn add_versions(
     Ok(())
 }
 
-/// The versions of a record of the laboratory, from what their own rows tell: each after the first amends the one before
-/// it. Of the record all but its versions is read.
+/// Returns the versions of a record of the laboratory, made from their own rows: each after the
+/// first amends the version before it. Of the record, reads everything but its versions.
 ///
 /// # Errors
-/// The store refused, a row is none that this program writes, or memory ran out.
+/// The store failed, a row isn't one that this program could have written, or memory ran out.
 pub fn chain(
     alloc: Global,
     lab: &LabCode,

@@ -52,7 +52,7 @@ fn entry_of_row(alloc: Global, row: &Row) -> Result<EntryHead, ReadFault>
     })
 }
 
-// What rows show.
+// What the rows show.
 fn entries_of_rows(alloc: Global, rows: &[Row]) -> Result<Vec<EntryHead>, ReadFault>
     ensures value { IfOk result (λ made. made.items ≡ map own_entry_read rows.now) }
     ensures fault { IfErr result (λ fault. fault ≡ storage → ¬ All HasOwnEntry rows.now) }
@@ -79,7 +79,7 @@ fn entry_heads_at<D: Readable>(
     entries_of_rows(alloc, &rows)
 }
 
-// The entry, with its person's code.
+// The entry, with the code of its person.
 fn entry_whole<D: Readable>(
     alloc: Global,
     conn: &mut D,
@@ -103,7 +103,7 @@ fn entry_whole<D: Readable>(
     })
 }
 
-// The entry, behind others.
+// Adds the entry after the others.
 fn add_entry<D: Readable>(
     alloc: Global,
     conn: &mut D,
@@ -122,7 +122,7 @@ fn add_entry<D: Readable>(
     Ok(())
 }
 
-// The entries, behind others. The code of each person is read once.
+// Adds the entries after the others. The code of each person is read once.
 fn add_entries<D: Readable>(
     alloc: Global,
     conn: &mut D,
@@ -141,11 +141,11 @@ fn add_entries<D: Readable>(
     Ok(())
 }
 
-/// The entries of the version with the id, in the order of their places. The code of each person is
-/// read once.
+/// Returns the entries of the version with the id, in the order of their places. The code of each
+/// person is read once.
 ///
 /// # Errors
-/// The store refused, a row is none that this program writes, or memory ran out.
+/// The store failed, a row isn't one that this program could have written, or memory ran out.
 pub fn entries_at<D: Readable>(
     alloc: Global,
     conn: &mut D,

@@ -1,4 +1,4 @@
-//! Rows as they are read, each by its id.
+//! Rows as they are read, each with its id.
 
 use lab_forms_texts::{Key, LabCode, Moment, Name, Note, Ordinal, PersonCode, Unit};
 
@@ -7,7 +7,7 @@ use lab_forms_texts::{Key, LabCode, Moment, Name, Note, Ordinal, PersonCode, Uni
 pub struct LabHead {
     /// The row's id.
     pub id: i64,
-    /// The code by which requests name it.
+    /// The code with which requests name it.
     pub code: LabCode,
     /// Its name.
     pub name: Name,
@@ -15,11 +15,11 @@ pub struct LabHead {
     pub last: Moment,
     /// How many stray passwords were given.
     pub strays: u64,
-    /// How many numbers of records it gave.
+    /// How many record numbers the laboratory has assigned.
     pub records: u64,
-    /// How many numbers of sessions it gave.
+    /// How many session numbers the laboratory has assigned.
     pub sessions: u64,
-    /// How many numbers of rows of the trail it gave.
+    /// How many trail row numbers the laboratory has assigned.
     pub trail: u64,
 }
 
@@ -32,7 +32,7 @@ pub struct VersionHead {
     pub number: Ordinal,
     /// The number of the format of its text.
     pub format: u32,
-    /// Who opened it.
+    /// The person who opened it.
     pub opener: PersonCode,
     /// When it was opened.
     pub opened: Moment,
@@ -64,11 +64,11 @@ pub struct RecordHead {
     pub id: i64,
     /// Its number in the laboratory.
     pub number: Ordinal,
-    /// The id of the version of the form that it is filled in by.
+    /// The id of the version of the form that the record follows.
     pub form: i64,
-    /// By what the form is known.
+    /// The code of the form.
     pub form_code: Key,
-    /// The sample that it is about.
+    /// The sample that the record is about.
     pub sample: Name,
     /// The number of its last version.
     pub current: u32,

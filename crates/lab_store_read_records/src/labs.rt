@@ -19,10 +19,10 @@ use lab_store_columns::{ReadFault, Readable};
 use sqlite::Row;
 use std::alloc::Global;
 
-/// The row of the laboratory with the code, if there is one. Nothing is committed.
+/// Returns the row of the laboratory with the code, if there is one. Commits nothing.
 ///
 /// # Errors
-/// The store refuses, or memory runs out.
+/// The store fails, or memory runs out.
 pub fn lab_rows<D: Readable>(conn: &mut D, code: &str) -> Result<Vec<Row>, ReadFault>
     ensures kept { HasCleanDisk (D.state conn.new) →
         KeepsCommit (D.state conn.old) (D.state conn.new) }
@@ -73,10 +73,10 @@ fn first_lab(alloc: Global, rows: &[Row]) -> Result<Option<LabHead>, ReadFault>
     }
 }
 
-/// The laboratory's own row, where there is one of the code.
+/// Returns the own row of the laboratory with the code, if there is one.
 ///
 /// # Errors
-/// The store refused, a row is none that this program writes, or memory ran out.
+/// The store failed, a row isn't one that this program could have written, or memory ran out.
 pub fn lab_at<D: Readable>(
     alloc: Global,
     conn: &mut D,

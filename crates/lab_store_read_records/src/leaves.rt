@@ -1,4 +1,4 @@
-//! Whole versions, each as its own rows tell it.
+//! Whole versions, each as its own rows show it.
 
 ghost use Rattle.std.specs.Prelude.{◌≡◌};
 ghost use Rattle.lab_store_read_records.specs.Leaves.{leaf_of, leaf_by};
@@ -15,14 +15,14 @@ use lab_seal_versions::EntryRows;
 use lab_store_columns::{ReadFault, Readable};
 use std::alloc::Global;
 
-/// A version as its own rows tell it. What it amends they don't tell.
+/// A version as its own rows show it. The rows don't show what the version amends.
 #[derive(Drop)]
 pub struct VersionLeaf {
     /// Its number in the record.
     pub number: Ordinal,
     /// The number of the format of its text.
     pub format: u32,
-    /// Who opened it.
+    /// The person who opened it.
     pub opener: PersonCode,
     /// When it was opened.
     pub opened: Moment,
@@ -34,10 +34,10 @@ pub struct VersionLeaf {
     pub signatures: Series<Signature>,
 }
 
-/// The version with the row, with its entries and signatures.
+/// Returns the version with the row, with its entries and signatures.
 ///
 /// # Errors
-/// The store refused, a row is none that this program writes, or memory ran out.
+/// The store failed, a row isn't one that this program could have written, or memory ran out.
 pub fn leaf_at<D: Readable>(
     alloc: Global,
     conn: &mut D,

@@ -1,5 +1,6 @@
-//! What the tables of a file say of a laboratory and its records: a record by what it is known by, its
-//! versions, and the chain of them (ISO/IEC 17025:2017, 8.4.2; 21 CFR 11.10(c)). Nothing is written.
+//! What the tables of a file say about a laboratory and its records: a record, found by its number
+//! or by its form and sample, its versions, and their chain (ISO/IEC 17025:2017, 8.4.2; 21 CFR
+//! 11.10(c)). Nothing is written.
 #![tactic(auto)]
 
 mod asking;

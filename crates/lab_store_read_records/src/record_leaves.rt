@@ -1,4 +1,4 @@
-//! All versions of a record, each as its own rows tell it.
+//! All versions of a record, each as its own rows show it.
 
 ghost use Rattle.std.specs.Prelude.{◌≡◌, [], ◌∷◌, ◌++◌, map, All};
 ghost use Rattle.lab_store_tables.specs.Meaning.{leaves_of};
@@ -13,7 +13,7 @@ use crate::{VersionHead, VersionLeaf, leaf_at, versions_at};
 use lab_store_columns::{ReadFault, Readable};
 use std::alloc::Global;
 
-// The version with the row, behind others.
+// Adds the version with the row after the others.
 fn add_leaf<D: Readable>(
     alloc: Global,
     conn: &mut D,
@@ -31,7 +31,7 @@ fn add_leaf<D: Readable>(
     Ok(())
 }
 
-// The versions with the rows, behind others.
+// Adds the versions with the rows after the others.
 fn add_leaves<D: Readable>(
     alloc: Global,
     conn: &mut D,
@@ -51,10 +51,10 @@ fn add_leaves<D: Readable>(
     Ok(())
 }
 
-/// The whole versions of the record with the id, in the order of their numbers.
+/// Returns the whole versions of the record with the id, in the order of their numbers.
 ///
 /// # Errors
-/// The store refused, a row is none that this program writes, or memory ran out.
+/// The store failed, a row isn't one that this program could have written, or memory ran out.
 pub fn leaves_at<D: Readable>(
     alloc: Global,
     conn: &mut D,

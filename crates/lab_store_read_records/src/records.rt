@@ -30,10 +30,10 @@ fn record_rows<D: Readable>(conn: &mut D, lab: i64, number: u32) -> Result<Vec<R
     )
 }
 
-/// The record that a row shows.
+/// Returns the record that a row shows.
 ///
 /// # Errors
-/// The store refused, a row is none that this program writes, or memory ran out.
+/// The store failed, a row isn't one that this program could have written, or memory ran out.
 pub(crate) fn record_of_row(alloc: Global, row: &Row) -> Result<RecordHead, ReadFault>
     ensures value { IfOk result (λ found. found ≡ record_read row.now) }
     ensures fault { IfErr result (λ fault. fault ≡ storage → ¬ HasRecord row.now) }
@@ -54,10 +54,10 @@ pub(crate) fn record_of_row(alloc: Global, row: &Row) -> Result<RecordHead, Read
     })
 }
 
-/// The record that the first row shows.
+/// Returns the record that the first row shows.
 ///
 /// # Errors
-/// The store refused, a row is none that this program writes, or memory ran out.
+/// The store failed, a row isn't one that this program could have written, or memory ran out.
 pub(crate) fn first_record(alloc: Global, rows: &[Row]) -> Result<Option<RecordHead>, ReadFault>
     ensures value { IfOk result (λ found. found ≡ option_map record_read (slice_get rows.now 0)) }
     ensures fault { IfErr result (λ fault. fault ≡ storage → ¬ HasFirst HasRecord rows.now) }
@@ -68,10 +68,11 @@ pub(crate) fn first_record(alloc: Global, rows: &[Row]) -> Result<Option<RecordH
     }
 }
 
-/// The record's own row, where there is one of the number in the laboratory with the id.
+/// Returns the own row of the record with the number, in the laboratory with the id, if there is
+/// one.
 ///
 /// # Errors
-/// The store refused, a row is none that this program writes, or memory ran out.
+/// The store failed, a row isn't one that this program could have written, or memory ran out.
 pub fn record_at<D: Readable>(
     alloc: Global,
     conn: &mut D,

@@ -19,7 +19,7 @@ use lab_store_columns::{ReadFault, Readable};
 use sqlite::Row;
 use std::alloc::Global;
 
-// The row of the record by the form about the sample, in the laboratory with the id.
+// The row of the record with the form and the sample, in the laboratory with the id.
 fn about_rows<D: Readable>(
     conn: &mut D,
     lab: i64,
@@ -39,10 +39,11 @@ fn about_rows<D: Readable>(
     )
 }
 
-/// The record's own row, where there is one by a form of the code about the sample in the laboratory with the id.
+/// Returns the own row of the record with a form of the code and the sample, in the laboratory with
+/// the id, if there is one.
 ///
 /// # Errors
-/// The store refused, a row is none that this program writes, or memory ran out.
+/// The store failed, a row isn't one that this program could have written, or memory ran out.
 pub fn record_about<D: Readable>(
     alloc: Global,
     conn: &mut D,
@@ -92,10 +93,11 @@ fn records_of_rows(alloc: Global, rows: &[Row]) -> Result<Vec<RecordHead>, ReadF
     Ok(made)
 }
 
-/// The rows of the records from a number to a number in the laboratory with the id, in the order of the numbers.
+/// Returns the rows of the records with a number in the range, in the laboratory with the id, in
+/// the order of the numbers.
 ///
 /// # Errors
-/// The store refused, a row is none that this program writes, or memory ran out.
+/// The store failed, a row isn't one that this program could have written, or memory ran out.
 pub fn records_within<D: Readable>(
     alloc: Global,
     conn: &mut D,

@@ -33,8 +33,8 @@ fn signature_rows<D: Readable>(conn: &mut D, version: i64) -> Result<Vec<Row>, R
     )
 }
 
-// What a version was signed as, by its word and its reason. `None` where no meaning is stored with this word and reason: only
-// a rejection has a reason.
+// What a version was signed as, by its word and its reason. `None` if no meaning is stored with
+// this word and reason: only a rejection has a reason.
 fn meaning_by(word: &str, reason: Option<Note>) -> Option<Meaning>
     ensures value { IfSome result (λ meaning. meaning ≡ meaning_in word.now reason) }
     ensures none { IfNone result (IsFalse (is_meaning word.now reason)) }
@@ -51,7 +51,7 @@ fn meaning_by(word: &str, reason: Option<Note>) -> Option<Meaning>
     }
 }
 
-// What the version was signed as, which stands in two columns of a row.
+// What the version was signed as, read from two columns of a row.
 fn meaning_of(alloc: Global, row: &Row) -> Result<Meaning, ReadFault>
     ensures value { IfOk result (λ meaning. meaning
         ≡ meaning_in (bytes (column row.now 2)) (optional_in bytes (column row.now 3))) }
@@ -95,10 +95,10 @@ fn signatures_of_rows(alloc: Global, rows: &[Row]) -> Result<Vec<Signature>, Rea
     Ok(made)
 }
 
-/// The signatures of the version with the id, in the order of their places.
+/// Returns the signatures of the version with the id, in the order of their places.
 ///
 /// # Errors
-/// The store refused, a row is none that this program writes, or memory ran out.
+/// The store failed, a row isn't one that this program could have written, or memory ran out.
 pub fn signatures_at<D: Readable>(
     alloc: Global,
     conn: &mut D,

@@ -61,10 +61,10 @@ fn versions_of_rows(alloc: Global, rows: &[Row]) -> Result<Vec<VersionHead>, Rea
     Ok(made)
 }
 
-/// The versions of the record with the id, in the order of their numbers.
+/// Returns the versions of the record with the id, in the order of their numbers.
 ///
 /// # Errors
-/// The store refused, a row is none that this program writes, or memory ran out.
+/// The store failed, a row isn't one that this program could have written, or memory ran out.
 pub fn versions_at<D: Readable>(
     alloc: Global,
     conn: &mut D,

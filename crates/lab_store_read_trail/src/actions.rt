@@ -1,4 +1,4 @@
-//! What a row of the trail tells of, by its word.
+//! The action that a row of the trail logs, by its word.
 
 ghost use Rattle.std.specs.Prelude.{◌≡◌, IfSome, IfNone, IsFalse};
 ghost use Rattle.lab_store_tables.specs.Columns.{action_in};
@@ -6,7 +6,7 @@ ghost use Rattle.lab_store_read_trail.specs.Readable.{is_action};
 
 use lab_records_kept::Action;
 
-/// The action that the word names. `None` where no action has this word.
+/// Returns the action with the word, or `None` if no action has this word.
 pub(crate) fn action_by(word: &str) -> Option<Action>
     ensures value { IfSome result (λ action. action ≡ action_in word.now) }
     ensures none { IfNone result (IsFalse (is_action word.now)) }

@@ -1,5 +1,5 @@
-//! One column of a row, as the type that stands in it. What is none of that type is a fault of the store, and nothing else is;
-//! memory runs out for texts alone.
+//! One column of a row, read as its type. The only fault of the store is a value of another type;
+//! memory can run out only for texts.
 
 ghost use Rattle.std.specs.Prelude.{◌≡◌, ◌&&◌, IfOk, IfErr};
 ghost use Rattle.std.specs.Str.{is_utf8};
@@ -14,7 +14,7 @@ use sqlite::Row;
 use sqlite::types::ValueRef;
 use std::alloc::Global;
 
-// The bytes of a text, which may be a subject.
+// Parses the bytes as a subject.
 fn subject_by(alloc: Global, text: &[u8]) -> Result<Subject, ReadFault>
     ensures value { IfOk result (λ subject. subject ≡ text.now) }
     ensures fault { IfErr result (IsNotMade (is_utf8 text.now && is_subject text.now)) }
@@ -25,10 +25,10 @@ fn subject_by(alloc: Global, text: &[u8]) -> Result<Subject, ReadFault>
     }
 }
 
-/// What something was done to.
+/// Returns the subject in a column: what something was done to.
 ///
 /// # Errors
-/// No text stands there, or memory ran out for it.
+/// The column holds no text, or memory ran out for it.
 pub(crate) fn subject_of(alloc: Global, row: &Row, at: usize) -> Result<Subject, ReadFault>
     ensures value { IfOk result (λ subject. subject ≡ bytes (column row.now at)) }
     ensures fault { IfErr result (IsNotMade (stands (is_text is_subject) row.now at)) }

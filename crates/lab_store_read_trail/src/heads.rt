@@ -1,4 +1,4 @@
-//! What was done, as its own row tells it.
+//! What was done, as its own row shows it.
 
 use lab_forms_texts::{Moment, Ordinal};
 use lab_records_kept::{Action, Subject};
@@ -10,7 +10,7 @@ pub struct ToldHead {
     pub number: Ordinal,
     /// When it was done.
     pub moment: Moment,
-    /// Whose row did it, or whose password was given.
+    /// The id of the row of the person who did it, or whose password was given.
     pub person: Option<i64>,
     /// What was done.
     pub action: Action,

@@ -1,5 +1,5 @@
-//! The rows of a laboratory's trail, as the tables of a file have them (ISO/IEC 17025:2017, 8.4.2; 21 CFR 11.10(e)). Nothing is
-//! written.
+//! The rows of a laboratory's trail, as the tables of a file have them (ISO/IEC 17025:2017, 8.4.2;
+//! 21 CFR 11.10(e)). Nothing is written.
 #![tactic(auto)]
 
 mod actions;

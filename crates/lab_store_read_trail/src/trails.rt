@@ -22,7 +22,7 @@ use lab_store_columns::{BadStore, KnownCode, ReadFault, Readable, code_if_any};
 use sqlite::Row;
 use std::alloc::Global;
 
-// The rows of the trail of a range of numbers, in the laboratory with the id.
+// The rows of the trail with a number in the range, in the laboratory with the id.
 fn told_rows<D: Readable>(conn: &mut D, lab: i64, from: u32, to: u32) -> Result<Vec<Row>, ReadFault>
     ensures reads { Reads (λ t rows. rows.items ≡ told_shown_within t lab from to)
         (D.state conn.old) (D.state conn.new) result }
@@ -57,7 +57,7 @@ fn told_of_row(alloc: Global, row: &Row) -> Result<ToldHead, ReadFault>
     })
 }
 
-// What rows show.
+// What the rows show.
 fn told_of_rows(alloc: Global, rows: &[Row]) -> Result<Vec<ToldHead>, ReadFault>
     ensures value { IfOk result (λ made. made.items ≡ map told_read rows.now) }
     ensures fault { IfErr result (λ fault. fault ≡ storage → ¬ All HasTold rows.now) }
@@ -69,7 +69,7 @@ fn told_of_rows(alloc: Global, rows: &[Row]) -> Result<Vec<ToldHead>, ReadFault>
     Ok(made)
 }
 
-// The own rows of the trail of a range of numbers, in the laboratory with the id.
+// The own rows of the trail with a number in the range, in the laboratory with the id.
 fn told_heads_at<D: Readable>(
     alloc: Global,
     conn: &mut D,
@@ -86,7 +86,7 @@ fn told_heads_at<D: Readable>(
     told_of_rows(alloc, &rows)
 }
 
-// The row of the trail, with the person's code.
+// The row of the trail, with the code of its person.
 fn told_whole<D: Readable>(
     alloc: Global,
     conn: &mut D,
@@ -108,7 +108,7 @@ fn told_whole<D: Readable>(
     })
 }
 
-// The row of the trail, behind others.
+// Adds the row of the trail after the others.
 fn add_told<D: Readable>(
     alloc: Global,
     conn: &mut D,
@@ -126,7 +126,7 @@ fn add_told<D: Readable>(
     Ok(())
 }
 
-// The rows of the trail, behind others. The code of each person is read once.
+// Adds the rows of the trail after the others. The code of each person is read once.
 fn add_all_told<D: Readable>(
     alloc: Global,
     conn: &mut D,
@@ -145,11 +145,11 @@ fn add_all_told<D: Readable>(
     Ok(())
 }
 
-/// The rows of the trail from a number to a number in the laboratory with the id, in the order of the
-/// numbers. The code of each person is read once.
+/// Returns the rows of the trail with a number in the range, in the laboratory with the id, in the
+/// order of the numbers. The code of each person is read once.
 ///
 /// # Errors
-/// The store refused, a row is none that this program writes, or memory ran out.
+/// The store failed, a row isn't one that this program could have written, or memory ran out.
 pub fn trail_within<D: Readable>(
     alloc: Global,
     conn: &mut D,

@@ -1,4 +1,4 @@
-//! A row more whose id is wanted.
+//! A statement that adds a row and returns its id.
 
 ghost use Rattle.std.specs.Prelude.{◌≡◌, ℕ, Ok, IfOk, IsTrue};
 ghost use Rattle.sqlite.specs.State.{HasCleanDisk, ExecutesInside};
@@ -10,10 +10,10 @@ use crate::writable::Writable;
 use sqlite::Error;
 use sqlite::types::ValueRef;
 
-/// Runs a statement that adds a row, and answers the row's id.
+/// Runs a statement that adds a row, and returns the row's id.
 ///
 /// # Errors
-/// The store refused, or memory ran out.
+/// The store failed, or memory ran out.
 pub fn insert<W: Writable>(tx: &mut W, text: &str, params: &[ValueRef<'_>]) -> Result<RowId, Error>
     ensures stays { Stays W.lender W.state tx.old tx.new }
     ensures ran { IsTrue (W.state tx.old).in_transaction → HasCleanDisk (W.state tx.new) →

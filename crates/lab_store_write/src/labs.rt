@@ -13,7 +13,7 @@ use sqlite::Error;
 /// Sets the last moment of the laboratory.
 ///
 /// # Errors
-/// The store refused, or memory ran out.
+/// The store failed, or memory ran out.
 pub fn set_last<W: Writable>(tx: &mut W, lab: RowId, moment: Moment) -> Result<usize, Error>
     ensures { Writes W.lender W.state (AppliesIn lab.id (Last moment)) tx.old tx.new result }
 {
@@ -24,10 +24,10 @@ pub fn set_last<W: Writable>(tx: &mut W, lab: RowId, moment: Moment) -> Result<u
     )
 }
 
-/// Sets how many passwords were given for nobody's account.
+/// Sets how many passwords were given for no person's account.
 ///
 /// # Errors
-/// Those of `Writable`, and a number that is too great for the store.
+/// The errors of `Writable`, or the number is too great for the store.
 pub fn set_strays<W: Writable>(tx: &mut W, lab: RowId, count: u64) -> Result<usize, Error>
     ensures { Writes W.lender W.state (AppliesIn lab.id (Strays count)) tx.old tx.new result }
 {

@@ -1,5 +1,6 @@
-//! Statements inside a transaction over the tables of a file: what each of them makes of the rows, who is named, the row of
-//! a laboratory, and a row of the trail (21 CFR 11.10(e); ISO/IEC 17025:2017, 7.11.3).
+//! Statements inside a transaction over the tables of a file: what each of them makes of the rows,
+//! the person whom a code names, the row of a laboratory, and a row of the trail (21 CFR 11.10(e);
+//! ISO/IEC 17025:2017, 7.11.3).
 #![tactic(auto)]
 
 pub mod ids;

@@ -1,4 +1,4 @@
-//! Who is named, by the keys of the table of persons.
+//! The persons whom codes name, by the keys of the table of persons.
 
 ghost use Rattle.std.specs.Prelude.{◌≡◌, Some, option_map, slice_get, IfOk, IfSome};
 ghost use Rattle.lab_store_tables.specs.Changes.{person_named, IsNamedIfAny};
@@ -12,10 +12,10 @@ use crate::writable::Writable;
 use lab_forms_texts::PersonCode;
 use sqlite::{Error, Row};
 
-/// The id that a row shows first.
+/// Returns the id that a row shows first.
 ///
 /// # Errors
-/// The store refused, or memory ran out.
+/// The store failed, or memory ran out.
 pub fn id_of(row: &Row) -> Result<RowId, Error>
     ensures { IfOk result (λ one. one.id ≡ id_read row.now) }
 {
@@ -23,10 +23,10 @@ pub fn id_of(row: &Row) -> Result<RowId, Error>
     Ok(RowId { id })
 }
 
-/// The id that the first row shows. Where there is no row, nobody is named.
+/// Returns the id that the first row shows. Fails if there is no row, because nobody is named then.
 ///
 /// # Errors
-/// The store refused, or memory ran out.
+/// The store failed, or memory ran out.
 pub fn first_id(rows: &[Row]) -> Result<RowId, Error>
     ensures { IfOk result (λ one. option_map id_read (slice_get rows.now 0) ≡ Some one.id) }
 {
@@ -36,7 +36,7 @@ pub fn first_id(rows: &[Row]) -> Result<RowId, Error>
     }
 }
 
-// The rows of the person of the code, in the laboratory.
+// The rows of the person with the code, in the laboratory.
 fn person_rows<W: Writable>(tx: &mut W, lab: RowId, code: &str) -> Result<Vec<Row>, Error>
     ensures { Answers W.lender W.state
         (λ rows. Finds (λ t. rows.items ≡ persons_shown lab.id code.now t)) tx.old tx.new result }
@@ -47,10 +47,10 @@ fn person_rows<W: Writable>(tx: &mut W, lab: RowId, code: &str) -> Result<Vec<Ro
     )
 }
 
-/// The person of the code, in the laboratory.
+/// Returns the id of the person with the code, in the laboratory.
 ///
 /// # Errors
-/// Those of `Writable`, and that there is none.
+/// The errors of `Writable`, or no such row exists.
 pub fn person_id_at<W: Writable>(tx: &mut W, lab: RowId, code: &PersonCode) -> Result<RowId, Error>
     ensures { Answers W.lender W.state
         (λ one. Finds (λ t. person_named t lab.id code.now ≡ Some one.id)) tx.old tx.new result }
@@ -59,7 +59,7 @@ pub fn person_id_at<W: Writable>(tx: &mut W, lab: RowId, code: &PersonCode) -> R
     first_id(&rows)
 }
 
-// The id of who is known, where it is the one of the code.
+// The id of the known person, if that person has the code.
 fn known_id(known: &Option<PersonCode>, person: Option<RowId>, code: &PersonCode) -> Option<RowId>
     ensures { IfSome result (λ one. (known.now ≡ Some code.now) × (person ≡ Some one)) }
 {
@@ -69,10 +69,11 @@ fn known_id(known: &Option<PersonCode>, person: Option<RowId>, code: &PersonCode
     }
 }
 
-/// The person of the code, in the laboratory. Who is known there by id isn't looked up again.
+/// Returns the id of the person with the code, in the laboratory. A person whose id is known isn't
+/// looked up again.
 ///
 /// # Errors
-/// Those of `person_id_at`.
+/// The errors of `person_id_at`.
 pub fn person_id_by<W: Writable>(
     tx: &mut W,
     lab: RowId,
@@ -90,10 +91,10 @@ pub fn person_id_by<W: Writable>(
     }
 }
 
-/// The person of the code, where one is named, in the laboratory.
+/// Returns the id of the person with the code, in the laboratory, if a code is given.
 ///
 /// # Errors
-/// The store refused, or memory ran out.
+/// The store failed, or memory ran out.
 pub fn person_if_any<W: Writable>(
     tx: &mut W,
     lab: RowId,

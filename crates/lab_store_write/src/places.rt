@@ -1,4 +1,4 @@
-//! The place of a row more, behind the rows that its parent has.
+//! The place of a new row, after the rows that its parent has.
 
 ghost use Rattle.std.specs.Prelude.{◌≡◌, ◌+◌, length};
 ghost use Rattle.lab_store_write.specs.Calls.{CountsBelow};
@@ -8,18 +8,18 @@ use crate::values::id_value;
 use crate::writable::Writable;
 use sqlite::{Error, Row};
 
-// The place behind the rows that a parent has.
+// The place after the rows that a parent has.
 fn place_behind(rows: &[Row]) -> u64
     ensures { result ≡ length rows.now + 1 }
 {
     rows.len() as u64 + 1
 }
 
-/// The place behind the rows of a parent, one more than they are. The text is a query that shows
-/// these rows by the parent's id.
+/// Returns the place after the rows of a parent: their number plus one. The text is a query that
+/// shows these rows by the parent's id.
 ///
 /// # Errors
-/// Those of `Writable::query_all`.
+/// The errors of `Writable::query_all`.
 pub fn place_below<W: Writable>(tx: &mut W, text: &str, parent: RowId) -> Result<u64, Error>
     ensures { CountsBelow W.lender W.state text.now parent.id tx.old tx.new result }
 {

@@ -16,10 +16,10 @@ pub struct RowId {
     pub id: i64,
 }
 
-/// Runs a statement that writes, and answers how many rows it wrote.
+/// Runs a statement that writes, and returns how many rows it wrote.
 ///
 /// # Errors
-/// The store refused, or memory ran out.
+/// The store failed, or memory ran out.
 pub fn run<W: Writable>(tx: &mut W, text: &str, params: &[ValueRef<'_>]) -> Result<usize, Error>
     ensures stays { Stays W.lender W.state tx.old tx.new }
     ensures runs { IsTrue (W.state tx.old).in_transaction → HasCleanDisk (W.state tx.new) →

@@ -41,7 +41,7 @@ fn insert_told<W: Writable>(
     )
 }
 
-// Sets how many rows of the trail the laboratory has.
+// Sets how many rows the trail of the laboratory has.
 fn set_trail<W: Writable>(tx: &mut W, lab: RowId, count: Ordinal) -> Result<usize, Error>
     ensures { Writes W.lender W.state
         (Becomes (in_lab lab.id (λ (one : LabRow). record one { trail = count })))
@@ -57,7 +57,7 @@ fn set_trail<W: Writable>(tx: &mut W, lab: RowId, count: Ordinal) -> Result<usiz
 /// Adds a row of the trail.
 ///
 /// # Errors
-/// Those of `Writable`, and that nobody has the code of who is named.
+/// The errors of `Writable`, or nobody has the code of the person in the row.
 pub fn add_told<W: Writable>(tx: &mut W, lab: RowId, told: &TrailRow) -> Result<(), Error>
     ensures { Writes W.lender W.state (AddsTold lab.id told.now) tx.old tx.new result }
 {
@@ -67,7 +67,7 @@ pub fn add_told<W: Writable>(tx: &mut W, lab: RowId, told: &TrailRow) -> Result<
     Ok(())
 }
 
-// Sets the last moment of the laboratory, and how many rows of the trail it has.
+// Sets the last moment of the laboratory, and how many rows its trail has.
 fn set_last_and_trail<W: Writable>(
     tx: &mut W,
     lab: RowId,
@@ -85,10 +85,11 @@ fn set_last_and_trail<W: Writable>(
     )
 }
 
-/// Adds a row of the trail, whose person has the id, and sets the last moment of the laboratory with its count.
+/// Adds a row of the trail, whose person has the id, and sets the last moment of the laboratory
+/// together with the number of its rows.
 ///
 /// # Errors
-/// Those of `Writable`.
+/// The errors of `Writable`.
 pub fn add_last_told<W: Writable>(
     tx: &mut W,
     lab: RowId,

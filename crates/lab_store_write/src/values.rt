@@ -1,4 +1,4 @@
-//! What is given to a statement for a column of each type.
+//! The value that a statement gets for a column of each type.
 
 ghost use Rattle.std.specs.Prelude.{◌≡◌, option_map, IfOk};
 ghost use Rattle.sqlite_value.specs.declared.value.Value.TheVariants.{Int, Text, Blob};
@@ -12,14 +12,14 @@ use lab_forms_texts::{Moment, Ordinal};
 use sqlite::types::ValueRef;
 use sqlite::{Error, ErrorCode};
 
-/// An id.
+/// Returns the value of an id.
 pub fn id_value<'a>(id: RowId) -> ValueRef<'a>
     ensures { bound_value (owned result) ≡ Int id.id }
 {
     ValueRef::Int(id.id)
 }
 
-/// An id, or NULL.
+/// Returns the value of an id, or NULL.
 pub fn id_or_null<'a>(id: Option<RowId>) -> ValueRef<'a>
     ensures { bound_value (owned result) ≡ optional Int (option_map row_id id) }
 {
@@ -29,14 +29,14 @@ pub fn id_or_null<'a>(id: Option<RowId>) -> ValueRef<'a>
     }
 }
 
-/// A moment.
+/// Returns the value of a moment.
 pub fn moment_value<'a>(moment: Moment) -> ValueRef<'a>
     ensures { bound_value (owned result) ≡ number moment }
 {
     ValueRef::Int(moment.seconds())
 }
 
-/// A moment, or NULL.
+/// Returns the value of a moment, or NULL.
 pub fn moment_or_null<'a>(moment: Option<Moment>) -> ValueRef<'a>
     ensures { bound_value (owned result) ≡ optional number moment }
 {
@@ -46,21 +46,21 @@ pub fn moment_or_null<'a>(moment: Option<Moment>) -> ValueRef<'a>
     }
 }
 
-/// A number of at most 32 bits.
+/// Returns the value of a number of at most 32 bits.
 pub fn small_value<'a>(small: u32) -> ValueRef<'a>
     ensures { bound_value (owned result) ≡ number small }
 {
     ValueRef::Int(i64::from(small))
 }
 
-/// A number by which something is counted.
+/// Returns the value of an ordinal: a number that counts things of a kind.
 pub fn ordinal_value<'a>(ordinal: Ordinal) -> ValueRef<'a>
     ensures { bound_value (owned result) ≡ number ordinal }
 {
     ValueRef::Int(i64::from(ordinal.get()))
 }
 
-/// Yes or no.
+/// Returns the value of yes or no.
 pub fn flag_value<'a>(yes: bool) -> ValueRef<'a>
     ensures { bound_value (owned result) ≡ flag yes }
 {
@@ -71,24 +71,25 @@ pub fn flag_value<'a>(yes: bool) -> ValueRef<'a>
     }
 }
 
-/// A text.
+/// Returns the value of a text.
 pub fn text_value(text: &str) -> ValueRef<'_>
     ensures { bound_value (owned result) ≡ Text text.now }
 {
     ValueRef::Text(text.as_bytes())
 }
 
-/// Bytes.
+/// Returns the value of bytes.
 pub fn blob_value(bytes: &[u8]) -> ValueRef<'_>
     ensures { bound_value (owned result) ≡ Blob bytes.now }
 {
     ValueRef::Blob(bytes)
 }
 
-/// A number that may be too great for the store, which has those below 2^63.
+/// Returns the value of a number that may be too great for the store, which holds numbers below
+/// 2^63.
 ///
 /// # Errors
-/// The store refused, or memory ran out.
+/// The store failed, or memory ran out.
 pub fn count_value<'a>(count: u64) -> Result<ValueRef<'a>, Error>
     ensures { IfOk result (λ value. bound_value (owned value) ≡ number count) }
 {

@@ -7,18 +7,19 @@ ghost use Rattle.sqlite.specs.Values.{bound};
 use sqlite::types::ValueRef;
 use sqlite::{Error, Row};
 
-/// What takes statements inside a transaction, with its state, of which each writer tells what it makes.
+/// What takes statements inside a transaction. It has a state, and each writer states what it makes
+/// of the state.
 ///
-/// Writers name no transaction: what is proved of them holds over whatever takes statements so, and a crate of writers loads
-/// nothing of what stands behind it.
+/// Writers name no transaction. So what is proved of them holds over everything that takes
+/// statements in this way, and a crate of writers doesn't depend on the transaction.
 pub trait Writable {
-    /// What is shown, and what a statement does to it.
+    /// The tables that are shown, and what a statement does to them.
     ghost state: { Self → State };
 
-    /// Whose transaction it is: no call puts another in its place.
+    /// The owner of the transaction: no call replaces it.
     ghost lender: { Self → ℕ × ℕ };
 
-    /// All rows of the answer.
+    /// Returns all rows of the answer.
     ///
     /// # Errors
     /// The statement is refused, the transaction has ended, the disk fails, or memory runs out.
@@ -31,7 +32,7 @@ pub trait Writable {
             ⊎ IsTooLate sql.now (bound params.now) (state self.old) (state self.new) e) }
         ensures survives { Survives (state self.old) (state self.new) (λ _. ⊥) };
 
-    /// Runs a statement that writes, and answers how many rows it wrote.
+    /// Runs a statement that writes, and returns how many rows it wrote.
     ///
     /// # Errors
     /// The statement is refused, the transaction has ended, the disk fails, or memory runs out.
@@ -41,7 +42,7 @@ pub trait Writable {
             ExecutesInside 0 sql.now (bound params.now) (state self.old) (state self.new) result }
         ensures survives { Survives (state self.old) (state self.new) (λ _. ⊥) };
 
-    /// The id of the row that was added last.
+    /// Returns the id of the row that was added last.
     fn last_insert_rowid(&self) -> i64
         ensures { result ≡ (state self.now).last_rowid };
 }

@@ -1,4 +1,4 @@
-//! Each change inside a transaction, and one after the other.
+//! Each change inside a transaction, and changes one after the other.
 
 ghost use Rattle.std.specs.Prelude.{OnOk, IsTrue};
 ghost use Rattle.std.specs.List.{list_all};
@@ -29,7 +29,7 @@ fn change_last<W: Writable>(tx: &mut W, lab: RowId, moment: Moment) -> Result<()
     Ok(())
 }
 
-// Sets how many passwords were given for nobody's account.
+// Sets how many passwords were given for no person's account.
 fn change_strays<W: Writable>(tx: &mut W, lab: RowId, count: u64) -> Result<(), Error>
     ensures { Writes W.lender W.state (AppliesIn lab.id (Strays count)) tx.old tx.new result }
 {
@@ -37,7 +37,7 @@ fn change_strays<W: Writable>(tx: &mut W, lab: RowId, count: u64) -> Result<(), 
     Ok(())
 }
 
-// Closes the sessions of the person that are meant.
+// Closes the sessions of the person that the change names.
 fn change_sessions<W: Writable>(
     tx: &mut W,
     lab: RowId,
@@ -53,7 +53,7 @@ fn change_sessions<W: Writable>(
 /// Makes the change of the laboratory whose row has the id.
 ///
 /// # Errors
-/// The store refused, or memory ran out.
+/// The store failed, or memory ran out.
 pub(crate) fn change_rows<W: Writable>(tx: &mut W, lab: RowId, change: &Change) -> Result<(), Error>
     ensures { Writes W.lender W.state (AppliesWhereKept lab.id change.now) tx.old tx.new result }
 {
@@ -94,7 +94,8 @@ fn each_inside<W: Writable>(tx: &mut W, lab: RowId, changes: &[Change]) -> Resul
     Ok(())
 }
 
-// Makes changes that most requests make: the row of the trail sets the last moment, too, and its person is looked up once.
+// Makes the changes that most requests make: the row of the trail also sets the last moment, and
+// its person is looked up once.
 fn framed_inside<W: Writable>(
     tx: &mut W,
     lab: RowId,
@@ -105,7 +106,7 @@ fn framed_inside<W: Writable>(
     ensures stays { Stays W.lender W.state tx.old tx.new }
     ensures inside { IsTrue (W.state tx.old).in_transaction → HasCleanDisk (W.state tx.new) →
         OnOk result (IsTrue (W.state tx.new).in_transaction) }
-    // Of changes that are such, in a database that keeps its own rules:
+    // For such changes, in a database that keeps its own rules:
     ensures made { IsTrue (list_all spares_lab between.now) →
         IsTrue (W.state tx.old).in_transaction → HasCleanDisk (W.state tx.new) →
         OnOk result (IsDatabase (W.state tx.old).now →
@@ -120,7 +121,7 @@ fn framed_inside<W: Writable>(
 /// Makes the changes, one after the other.
 ///
 /// # Errors
-/// The store refused, or memory ran out.
+/// The store failed, or memory ran out.
 pub fn all_inside<W: Writable>(tx: &mut W, lab: RowId, changes: &[Change]) -> Result<(), Error>
     ensures stays { Stays W.lender W.state tx.old tx.new }
     ensures inside { IsTrue (W.state tx.old).in_transaction → HasCleanDisk (W.state tx.new) →

@@ -1,4 +1,5 @@
-//! Changes that most requests make: the laboratory's last moment, some that leave its own row alone, and a row of its trail.
+//! The changes that most requests make: the laboratory's last moment, some that leave its own row
+//! unchanged, and a row of its trail.
 
 ghost use Rattle.std.specs.Prelude.{◌≡◌, [], ◌∷◌, ◌++◌, IfSome};
 ghost use Rattle.std.specs.List.{list_all};
@@ -8,18 +9,18 @@ ghost use Rattle.lab_store_write_changes.specs.Framed.{spares_lab, IsFramed};
 use lab_forms_texts::Moment;
 use lab_records_kept::{Change, TrailRow};
 
-/// Such changes.
+/// The changes that most requests make.
 #[derive(Clone, Copy)]
 pub(crate) struct Framed<'a> {
     /// The last moment.
     pub moment: Moment,
-    /// Those between.
+    /// The changes between these two.
     pub between: &'a [Change],
     /// The row of the trail.
     pub told: &'a TrailRow,
 }
 
-// Whether a change leaves the laboratory's own row alone.
+// Whether a change leaves the laboratory's own row unchanged.
 fn spares_lab(change: &Change) -> bool
     ensures { result ≡ spares_lab change.now }
 {
@@ -40,14 +41,15 @@ fn spares_lab(change: &Change) -> bool
     }
 }
 
-// Whether all of them do.
+// Whether all changes leave the laboratory's own row unchanged.
 fn all_spare_lab(changes: &[Change]) -> bool
     ensures { result ≡ list_all spares_lab changes.now }
 {
     changes.iter().all(|change| spares_lab(change))
 }
 
-// Such changes, where those between leave the laboratory's own row alone and the last is a row of the trail.
+// The changes in this form, if those between leave the laboratory's own row unchanged and the last
+// is a row of the trail.
 #[tactic(auto, using(crate::proofs::FramedSteps::framed_is))]
 fn framed_by<'a>(moment: Moment, between: &'a [Change], last: &'a Change) -> Option<Framed<'a>>
     ensures { IfSome result (λ one. IsFramed one.moment one.between.now one.told.now
@@ -63,7 +65,7 @@ fn framed_by<'a>(moment: Moment, between: &'a [Change], last: &'a Change) -> Opt
     }
 }
 
-// Such changes, where these come after the last moment.
+// The changes in this form, if these follow the last moment.
 fn framed_behind(moment: Moment, others: &[Change]) -> Option<Framed<'_>>
     ensures { IfSome result (λ one. IsFramed one.moment one.between.now one.told.now
         (Last moment ∷ others.now)) }
@@ -74,7 +76,7 @@ fn framed_behind(moment: Moment, others: &[Change]) -> Option<Framed<'_>>
     }
 }
 
-/// The changes, where they are such.
+/// Returns the changes in this form, if they are those that most requests make.
 pub(crate) fn frame_of(changes: &[Change]) -> Option<Framed<'_>>
     ensures { IfSome result (λ one.
         IsFramed one.moment one.between.now one.told.now changes.now) }

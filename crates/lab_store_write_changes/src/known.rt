@@ -1,4 +1,4 @@
-//! Changes by a person who is known by code and id, and isn't looked up again.
+//! Changes by a person whose code and id are known, and who isn't looked up again.
 
 ghost use Rattle.std.specs.Prelude.{OnOk, IsTrue};
 ghost use Rattle.std.specs.List.{list_all};
@@ -17,7 +17,7 @@ use lab_store_write_people::{set_person_of, set_session_of};
 use lab_store_write_records::{enter_row_of, sign_version_of};
 use sqlite::Error;
 
-// Sets a person.
+// Sets a person's row.
 fn set_known<W: Writable>(
     tx: &mut W,
     lab: RowId,
@@ -32,7 +32,7 @@ fn set_known<W: Writable>(
     set_person_of(tx, lab, whose, person)
 }
 
-// Sets a session.
+// Sets a session's row.
 fn touch_known<W: Writable>(
     tx: &mut W,
     lab: RowId,
@@ -47,7 +47,7 @@ fn touch_known<W: Writable>(
     set_session_of(tx, lab, whose, session)
 }
 
-// Adds an entry in the current version of a record.
+// Adds an entry to the current version of a record.
 fn enter_known<W: Writable>(
     tx: &mut W,
     lab: RowId,
@@ -105,11 +105,11 @@ fn change_known<W: Writable>(
     }
 }
 
-/// Makes changes that leave the laboratory's own row alone, one after the other. Who is known by
-/// code and id isn't looked up for them.
+/// Makes changes that leave the laboratory's own row unchanged, one after the other. The person
+/// whose code and id are known isn't looked up for them.
 ///
 /// # Errors
-/// The store refused, or memory ran out.
+/// The store failed, or memory ran out.
 pub(crate) fn each_known<W: Writable>(
     tx: &mut W,
     lab: RowId,
@@ -120,7 +120,7 @@ pub(crate) fn each_known<W: Writable>(
     ensures stays { Stays W.lender W.state tx.old tx.new }
     ensures inside { IsTrue (W.state tx.old).in_transaction → HasCleanDisk (W.state tx.new) →
         OnOk result (IsTrue (W.state tx.new).in_transaction) }
-    // Of such changes, in tables of ours, in a database that keeps its own rules:
+    // For such changes, in tables of ours, in a database that keeps its own rules:
     ensures made { IsTrue (list_all spares_lab changes.now) →
         IsTrue (W.state tx.old).in_transaction → HasCleanDisk (W.state tx.new) →
         OnOk result (IsTyped (W.state tx.old).now → IsDatabase (W.state tx.old).now →

@@ -1,6 +1,6 @@
-//! What is written inside one transaction: the changes of a request, one after the other, and the rows of
-//! a laboratory that is founded (21 CFR 11.10(e); ISO/IEC 17025:2017, 7.11.3). It names no connection
-//! and no transaction: who begins one, and commits it, stands above.
+//! What is written inside one transaction: the changes of a request, one after the other, and the
+//! rows of a laboratory that is founded (21 CFR 11.10(e); ISO/IEC 17025:2017, 7.11.3). This crate
+//! names no connection and no transaction: a crate above begins and commits the transaction.
 #![tactic(auto)]
 
 mod changes;

@@ -1,4 +1,5 @@
-//! A laboratory as it is founded: its persons in the order of their codes, and the first row of its trail.
+//! A laboratory at its founding: its persons in the order of their codes, and the first row of its
+//! trail.
 
 ghost use Rattle.std.specs.Prelude.{◌≡◌, ◌≤◌, [], ◌∷◌, length, None, position, IfOk, OnOk};
 ghost use Rattle.std.specs.List.{position_or_len};
@@ -16,7 +17,7 @@ use lab_records_kept::{
 use std::alloc::Global;
 use std::cmp::Ordering;
 
-/// Whether something was asked for a founder.
+/// Returns whether something was asked for a founder.
 pub fn is_asked(newborn: &Newborn) -> bool
     ensures { result ≡ is_asked newborn.now }
 {
@@ -33,14 +34,15 @@ fn comes_before<R: Rule>(one: &Text<R>, other: &Text<R>) -> bool
     }
 }
 
-// Where the first person of a later code stands.
+// The place of the first person with a later code.
 fn later_person(persons: &[Person], code: &PersonCode) -> Option<usize>
     ensures { result ≡ position (λ one. comes_before code.now one.code) persons.now }
 {
     persons.iter().position(|one| comes_before(code, &one.code))
 }
 
-// Where a person of the code is added: before the first of a later code, or at the end.
+// The place where a person with the code is added: before the first person with a later code, or at
+// the end.
 #[tactic(auto, using(crate::proofs::Positions::place_found, crate::proofs::Positions::place_at_end, crate::proofs::Positions::place_within))]
 fn place_for_person(persons: &[Person], code: &PersonCode) -> usize
     ensures value { result ≡ position_or_len (λ one. comes_before code.now one.code) persons.now }
@@ -52,7 +54,7 @@ fn place_for_person(persons: &[Person], code: &PersonCode) -> usize
     }
 }
 
-// Adds the person, in the order of codes. The only error is out of memory.
+// Adds the person, in the order of codes. Fails only if memory runs out.
 fn insert_person(persons: &mut Vec<Person>, person: Person) -> Result<(), OutOfMemory>
     ensures { OnOk result (persons.new.items ≡ added_person person persons.old.items) }
 {
@@ -61,7 +63,7 @@ fn insert_person(persons: &mut Vec<Person>, person: Person) -> Result<(), OutOfM
     Ok(())
 }
 
-// The founders, in the order of their codes. The only error is out of memory.
+// The founders, in the order of their codes. Fails only if memory runs out.
 fn founders(
     alloc: Global,
     first: Person,
@@ -78,7 +80,8 @@ fn founders(
     Ok(Series::from_vec(persons))
 }
 
-// The first row of the trail: that the laboratory was founded. The only error is out of memory.
+// The first row of the trail, which logs the founding of the laboratory. Fails only if memory runs
+// out.
 fn first_trail(alloc: Global, newborn: &Newborn) -> Result<Series<TrailRow>, OutOfMemory>
     ensures { IfOk result (λ trail.
         trail ≡ row_of 1 newborn.now.moment None (Found newborn.now.code) ∷ []) }
@@ -95,7 +98,7 @@ fn first_trail(alloc: Global, newborn: &Newborn) -> Result<Series<TrailRow>, Out
     Ok(trail)
 }
 
-/// The laboratory that is founded. The only error is out of memory.
+/// Returns the laboratory that is founded. Fails only if memory runs out.
 ///
 /// # Errors
 /// Memory ran out.

@@ -1,4 +1,4 @@
-//! The rows of a laboratory that is placed, each inside a transaction.
+//! The rows of a laboratory that is added, each inside a transaction.
 
 ghost use Rattle.std.specs.Prelude.{OnOk, IsTrue};
 ghost use Rattle.sqlite.specs.Effect.{IsDatabase};
@@ -16,13 +16,13 @@ use lab_store_write::{RowId, Writable, add_told};
 use lab_store_write_people::add_person;
 use sqlite::Error;
 
-// Adds the laboratory's row, and tells its id.
+// Adds the laboratory's row, and returns its id.
 //
 // # Errors
-// Those of `Writable`, and a number that is too great for the store.
+// The errors of `Writable`, or the number is too great for the store.
 fn add_lab<W: Writable>(tx: &mut W, lab: &Lab) -> Result<RowId, Error>
     ensures writes { Answers W.lender W.state (λ one. AddsLab one.id lab.now) tx.old tx.new result }
-    // The database keeps its own rules then, whatever it did before:
+    // The database then keeps its own rules, whatever it did before:
     ensures rules { IsTrue (W.state tx.old).in_transaction → HasCleanDisk (W.state tx.new) →
         OnOk result (IsTyped (W.state tx.old).now → IsDatabase (W.state tx.new).now) }
 {
@@ -64,10 +64,10 @@ fn add_trail<W: Writable>(tx: &mut W, lab: RowId, trail: &[TrailRow]) -> Result<
     Ok(())
 }
 
-/// Adds all of it.
+/// Adds all rows of the laboratory.
 ///
 /// # Errors
-/// The store refused, or memory ran out.
+/// The store failed, or memory ran out.
 pub fn add_rows<W: Writable>(tx: &mut W, lab: &Lab) -> Result<(), Error>
     ensures { Writes W.lender W.state (AddsRows lab.now) tx.old tx.new result }
 {

@@ -1,4 +1,5 @@
-//! Sessions that a change of their person's account closes, at a lock and at a retirement (21 CFR 11.300(b) and (d)).
+//! Sessions that are closed when the account of their person changes: at a lock and at a retirement
+//! (21 CFR 11.300(b) and (d)).
 
 ghost use Rattle.std.specs.Prelude.{◌≡◌};
 ghost use Rattle.lab_people_access.specs.declared.sessions.Closing.TheVariants.{All, Others};
@@ -46,7 +47,7 @@ fn all_rows<W: Writable>(tx: &mut W, person: RowId) -> Result<Vec<Row>, Error>
     )
 }
 
-// The open sessions of the person but the one of the number.
+// The open sessions of the person, except the one with the number.
 fn other_rows<W: Writable>(tx: &mut W, person: RowId, kept: Ordinal) -> Result<Vec<Row>, Error>
     ensures { Answers W.lender W.state
         (λ rows. Finds (λ t. rows.items ≡ opened_shown person.id (Others kept) t))
@@ -67,7 +68,7 @@ fn close_all<W: Writable>(tx: &mut W, person: RowId) -> Result<(), Error>
     Ok(())
 }
 
-// Closes all sessions of the person but the one of the number.
+// Closes all sessions of the person, except the one with the number.
 fn close_others<W: Writable>(tx: &mut W, person: RowId, kept: Ordinal) -> Result<(), Error>
     ensures { Writes W.lender W.state (Becomes (close_of person.id (Others kept)))
         tx.old tx.new result }
@@ -77,7 +78,7 @@ fn close_others<W: Writable>(tx: &mut W, person: RowId, kept: Ordinal) -> Result
     Ok(())
 }
 
-// Closes the sessions of the person that are meant.
+// Closes the sessions of the person that the change names.
 fn close_meant<W: Writable>(tx: &mut W, person: RowId, closing: Closing) -> Result<(), Error>
     ensures { Writes W.lender W.state (Becomes (close_of person.id closing)) tx.old tx.new result }
 {
@@ -88,10 +89,10 @@ fn close_meant<W: Writable>(tx: &mut W, person: RowId, closing: Closing) -> Resu
     }
 }
 
-/// Closes the sessions of the person of the code that are meant.
+/// Closes the sessions, of the person with the code, that the change names.
 ///
 /// # Errors
-/// Those of `Writable`, and that nobody has the code.
+/// The errors of `Writable`, or nobody has the code.
 pub fn close_sessions<W: Writable>(
     tx: &mut W,
     lab: RowId,

@@ -1,5 +1,5 @@
-//! The calls that add and set persons, their accounts and their sessions in the tables of a file, each
-//! inside a transaction (21 CFR 11.10(e), 11.300).
+//! The calls that add and set persons, their accounts and their sessions in the tables of a file,
+//! each inside a transaction (21 CFR 11.10(e), 11.300).
 #![tactic(auto)]
 
 mod closings;

@@ -1,4 +1,4 @@
-//! What the columns of a person's password, roles and asked one-time word are made of.
+//! The values in the columns of a person's password, roles and one-time word that was asked for.
 
 ghost use Rattle.std.specs.Prelude.{◌≡◌, option_map, if◌then◌else◌};
 ghost use Rattle.sqlite_value.specs.declared.value.Value.TheVariants.{Blob};
@@ -14,7 +14,8 @@ use lab_seal_hashes::VerifierParts;
 use lab_store_write::RowId;
 use sqlite::types::ValueRef;
 
-/// What the columns of a password are made of: 0 none, 1 chosen, with one verifier, 2 a one-time word, with two.
+/// The values in the columns of a password. Kind 0: no password; 1: a chosen one, with one
+/// verifier; 2: a one-time word, with two.
 #[derive(Clone, Copy)]
 pub(crate) struct PasswordCells {
     /// The kind.
@@ -27,18 +28,18 @@ pub(crate) struct PasswordCells {
     pub changed: Option<Moment>,
 }
 
-/// What the columns of a one-time word that was asked for are made of.
+/// The values in the columns of a one-time word that was asked for.
 #[derive(Clone, Copy)]
 pub(crate) struct AskCells {
-    /// Who asked.
+    /// The person who asked.
     pub asker: Option<RowId>,
-    /// When.
+    /// The moment of the asking.
     pub asked: Option<Moment>,
     /// The verifier.
     pub first: Option<VerifierParts>,
 }
 
-/// The columns of the password.
+/// Returns the values in the columns of the password.
 pub(crate) fn password_cells(password: &Password) -> PasswordCells
     ensures { result ≡ password_cells password.now }
 {
@@ -68,7 +69,7 @@ pub(crate) fn password_cells(password: &Password) -> PasswordCells
     }
 }
 
-/// The columns of what was asked for, by whom.
+/// Returns the values in the columns of what was asked for, and by whom.
 pub(crate) fn ask_cells(asker: Option<RowId>, ask: &Option<Ask>) -> AskCells
     ensures { result ≡ ask_cells asker ask.now }
 {
@@ -86,14 +87,14 @@ pub(crate) fn ask_cells(asker: Option<RowId>, ask: &Option<Ask>) -> AskCells
     }
 }
 
-// A weight, where it counts.
+// A weight, if it counts; otherwise 0.
 fn weight(counts: bool, weight: u32) -> u32
     ensures { result ≡ (if counts then weight else 0) }
 {
     if counts { weight } else { 0 }
 }
 
-/// The sum that tells the roles.
+/// Returns the sum that stands for the roles.
 pub(crate) fn roles_sum(roles: Roles) -> u32
     ensures { result ≡ roles_sum roles }
 {
@@ -105,7 +106,7 @@ pub(crate) fn roles_sum(roles: Roles) -> u32
     analyst + reviewer + manager + administrator + inspector
 }
 
-/// The salt, or NULL.
+/// Returns the salt, or NULL.
 pub(crate) fn salt_or_null(parts: &Option<VerifierParts>) -> ValueRef<'_>
     ensures { bound_value (owned result) ≡ optional Blob (option_map salt_in parts.now) }
 {
@@ -115,7 +116,7 @@ pub(crate) fn salt_or_null(parts: &Option<VerifierParts>) -> ValueRef<'_>
     }
 }
 
-/// The rounds, or NULL.
+/// Returns the rounds, or NULL.
 pub(crate) fn rounds_or_null<'a>(parts: &Option<VerifierParts>) -> ValueRef<'a>
     ensures { bound_value (owned result) ≡ optional number (option_map rounds_in parts.now) }
 {
@@ -125,7 +126,7 @@ pub(crate) fn rounds_or_null<'a>(parts: &Option<VerifierParts>) -> ValueRef<'a>
     }
 }
 
-/// What PBKDF2 made, or NULL.
+/// Returns what PBKDF2 made, or NULL.
 pub(crate) fn made_or_null(parts: &Option<VerifierParts>) -> ValueRef<'_>
     ensures { bound_value (owned result) ≡ optional Blob (option_map made_in parts.now) }
 {

@@ -17,7 +17,7 @@ use lab_store_write::values::{
 use lab_store_write::{RowId, Writable, person_id_at};
 use sqlite::Error;
 
-// Who asked for a one-time word, where somebody did.
+// The person who asked for a one-time word, if somebody did.
 fn asker_if_any<W: Writable>(
     tx: &mut W,
     lab: RowId,
@@ -84,7 +84,7 @@ fn insert_person<W: Writable>(
 /// Adds a person.
 ///
 /// # Errors
-/// Those of `Writable`, and that nobody has the code of who asked for a one-time word.
+/// The errors of `Writable`, or nobody has the code of the person who asked for a one-time word.
 pub fn add_person<W: Writable>(tx: &mut W, lab: RowId, person: &Person) -> Result<(), Error>
     ensures { Writes W.lender W.state (AddsPerson lab.id person.now) tx.old tx.new result }
 {
@@ -141,10 +141,10 @@ fn update_person<W: Writable>(
     )
 }
 
-/// Sets a person, who has the id.
+/// Sets the row of a person, who has the id.
 ///
 /// # Errors
-/// Those of `Writable`, and that nobody has the code of who asked for a one-time word.
+/// The errors of `Writable`, or nobody has the code of the person who asked for a one-time word.
 pub fn set_person_of<W: Writable>(
     tx: &mut W,
     lab: RowId,
@@ -160,10 +160,11 @@ pub fn set_person_of<W: Writable>(
     Ok(())
 }
 
-/// Sets a person, whom the code names.
+/// Sets the row of a person, whom the code names.
 ///
 /// # Errors
-/// Those of `Writable`, and that nobody has that code, or that of who asked for a one-time word.
+/// The errors of `Writable`, or nobody has that code, or the code of the person who asked for a
+/// one-time word.
 pub fn set_person<W: Writable>(tx: &mut W, lab: RowId, person: &Person) -> Result<(), Error>
     ensures { Writes W.lender W.state (SetsPerson lab.id person.now) tx.old tx.new result }
 {

@@ -56,7 +56,7 @@ fn set_sessions<W: Writable>(tx: &mut W, lab: RowId, count: Ordinal) -> Result<u
 /// Adds a session.
 ///
 /// # Errors
-/// Those of `Writable`, and that nobody has the code of its person.
+/// The errors of `Writable`, or nobody has the code of its person.
 pub fn add_session<W: Writable>(tx: &mut W, lab: RowId, session: &Session) -> Result<(), Error>
     ensures { Writes W.lender W.state (AddsSession lab.id session.now) tx.old tx.new result }
 {
@@ -66,7 +66,7 @@ pub fn add_session<W: Writable>(tx: &mut W, lab: RowId, session: &Session) -> Re
     Ok(())
 }
 
-// Sets the row of the laboratory that has the token, and returns how many rows it set.
+// Sets the row of the laboratory that has the token, and returns how many rows were set.
 fn update_session<W: Writable>(
     tx: &mut W,
     lab: RowId,
@@ -93,10 +93,10 @@ fn update_session<W: Writable>(
     )
 }
 
-/// Sets a session, which its token names, and whose person has the id.
+/// Sets the row of a session, which its token names, and whose person has the id.
 ///
 /// # Errors
-/// Those of `Writable`, and that no session has the token.
+/// The errors of `Writable`, or no session has the token.
 pub fn set_session_of<W: Writable>(
     tx: &mut W,
     lab: RowId,
@@ -114,10 +114,10 @@ pub fn set_session_of<W: Writable>(
     Ok(())
 }
 
-/// Sets a session, which its token names.
+/// Sets the row of a session, which its token names.
 ///
 /// # Errors
-/// Those of `Writable`, and that no session has the token, or nobody the code of its person.
+/// The errors of `Writable`, or no session has the token, or nobody has the code of its person.
 pub fn set_session<W: Writable>(tx: &mut W, lab: RowId, session: &Session) -> Result<(), Error>
     ensures { Writes W.lender W.state (SetsSession lab.id session.now) tx.old tx.new result }
 {

@@ -1,4 +1,4 @@
-//! Rows of a version, each behind those that it has.
+//! The entries of a version, each added after those that the version has.
 
 ghost use Rattle.std.specs.Prelude.{◌≡◌, Some};
 ghost use Rattle.lab_records_kept.specs.declared.changes.Change.TheVariants.{RowAdded};
@@ -47,7 +47,7 @@ fn insert_entry<W: Writable>(
     )
 }
 
-// Adds an entry behind those that the version has. Who entered it has the id.
+// Adds an entry after those that the version has. The person who entered it has the id.
 fn add_entry_of<W: Writable>(
     tx: &mut W,
     version: RowId,
@@ -62,10 +62,10 @@ fn add_entry_of<W: Writable>(
     Ok(())
 }
 
-/// Adds an entry behind those that the version has.
+/// Adds an entry after those that the version has.
 ///
 /// # Errors
-/// Those of `Writable`, and that nobody has the code of who entered it.
+/// The errors of `Writable`, or nobody has the code of the person who entered it.
 pub fn add_entry<W: Writable>(
     tx: &mut W,
     lab: RowId,
@@ -78,10 +78,10 @@ pub fn add_entry<W: Writable>(
     add_entry_of(tx, version, person, entry)
 }
 
-/// Adds an entry in the current version of a record. Who entered it has the id.
+/// Adds an entry to the current version of a record. The person who entered it has the id.
 ///
 /// # Errors
-/// Those of `Writable`, and that there is no record of the number.
+/// The errors of `Writable`, or no record has the number.
 pub fn enter_row_of<W: Writable>(
     tx: &mut W,
     lab: RowId,
@@ -97,10 +97,10 @@ pub fn enter_row_of<W: Writable>(
     add_entry_of(tx, version, person, entry)
 }
 
-/// Adds an entry in the current version of a record.
+/// Adds an entry to the current version of a record.
 ///
 /// # Errors
-/// Those of `Writable`, and that there is no record of the number, or nobody of the code.
+/// The errors of `Writable`, or no record has the number, or nobody has the code.
 pub fn enter_row<W: Writable>(
     tx: &mut W,
     lab: RowId,

@@ -40,7 +40,7 @@ fn insert_choice<W: Writable>(
     )
 }
 
-// Adds a choice behind those that the field has.
+// Adds a choice after those that the field has.
 fn add_choice<W: Writable>(tx: &mut W, field: RowId, name: &Name) -> Result<(), Error>
     ensures { Writes W.lender W.state (AddsChoice field.id name.now) tx.old tx.new result }
 {
@@ -49,7 +49,7 @@ fn add_choice<W: Writable>(tx: &mut W, field: RowId, name: &Name) -> Result<(), 
     Ok(())
 }
 
-// Adds choices, one behind the other.
+// Adds choices, one after the other.
 fn add_choices<W: Writable>(tx: &mut W, field: RowId, names: &[Name]) -> Result<(), Error>
     ensures { Writes W.lender W.state (InTurn (AddsChoice field.id) names.now)
         tx.old tx.new result }
@@ -60,7 +60,7 @@ fn add_choices<W: Writable>(tx: &mut W, field: RowId, names: &[Name]) -> Result<
     Ok(())
 }
 
-// Adds the choices of a kind, where it has some.
+// Adds the choices of a kind, if it has some.
 fn add_kind<W: Writable>(tx: &mut W, field: RowId, kind: &Kind) -> Result<(), Error>
     ensures { Writes W.lender W.state (InTurn (AddsChoice field.id) (kind_names kind.now))
         tx.old tx.new result }
@@ -127,7 +127,7 @@ fn insert_field<W: Writable>(
     )
 }
 
-// Adds a field, with its choices, behind those that the form has.
+// Adds a field, with its choices, after those that the form has.
 fn add_field<W: Writable>(tx: &mut W, form: RowId, field: &Field) -> Result<(), Error>
     ensures { Writes W.lender W.state (AddsField form.id field.now) tx.old tx.new result }
 {
@@ -137,7 +137,7 @@ fn add_field<W: Writable>(tx: &mut W, form: RowId, field: &Field) -> Result<(), 
     Ok(())
 }
 
-// Adds fields, one behind the other.
+// Adds fields, one after the other.
 fn add_fields<W: Writable>(tx: &mut W, form: RowId, fields: &[Field]) -> Result<(), Error>
     ensures { Writes W.lender W.state (InTurn (AddsField form.id) fields.now) tx.old tx.new result }
 {
@@ -150,7 +150,7 @@ fn add_fields<W: Writable>(tx: &mut W, form: RowId, fields: &[Field]) -> Result<
 /// Adds a version of a form with its fields.
 ///
 /// # Errors
-/// The store refused, or memory ran out.
+/// The store failed, or memory ran out.
 pub fn add_form<W: Writable>(tx: &mut W, lab: RowId, form: &FormVersion) -> Result<(), Error>
     ensures { Writes W.lender W.state (AppliesIn lab.id (FormAdded form.now)) tx.old tx.new result }
 {

@@ -1,4 +1,4 @@
-//! What a field takes, by columns.
+//! The values that a field takes, as columns.
 
 ghost use Rattle.std.specs.Prelude.{◌≡◌};
 ghost use Rattle.sqlite_value.specs.declared.value.Value.TheVariants.{Text};
@@ -10,7 +10,7 @@ ghost use Rattle.lab_store_tables.specs.Columns.{kind_columns};
 use lab_forms::{Bound, Kind};
 use sqlite::types::ValueRef;
 
-/// The word of the kind.
+/// Returns the word of the kind.
 pub(crate) fn kind_word(kind: &Kind) -> &'static str
     ensures { result.now ≡ (kind_columns kind.now).word }
 {
@@ -33,7 +33,7 @@ fn bound_or_null(bound: &Option<Bound>) -> ValueRef<'_>
     }
 }
 
-/// The unit of a number.
+/// Returns the unit of a number, or NULL.
 pub(crate) fn unit_or_null(kind: &Kind) -> ValueRef<'_>
     ensures { bound_value (owned result) ≡ optional Text (kind_columns kind.now).unit }
 {
@@ -43,7 +43,7 @@ pub(crate) fn unit_or_null(kind: &Kind) -> ValueRef<'_>
     }
 }
 
-/// The decimals of a number.
+/// Returns the decimals of a number, or NULL.
 pub(crate) fn decimals_or_null(kind: &Kind) -> ValueRef<'_>
     ensures { bound_value (owned result) ≡ optional number (kind_columns kind.now).decimals }
 {
@@ -53,7 +53,7 @@ pub(crate) fn decimals_or_null(kind: &Kind) -> ValueRef<'_>
     }
 }
 
-/// The least number.
+/// Returns the least number, or NULL.
 pub(crate) fn low_or_null(kind: &Kind) -> ValueRef<'_>
     ensures { bound_value (owned result) ≡ optional Text (kind_columns kind.now).low }
 {
@@ -63,7 +63,7 @@ pub(crate) fn low_or_null(kind: &Kind) -> ValueRef<'_>
     }
 }
 
-/// The greatest number.
+/// Returns the greatest number, or NULL.
 pub(crate) fn high_or_null(kind: &Kind) -> ValueRef<'_>
     ensures { bound_value (owned result) ≡ optional Text (kind_columns kind.now).high }
 {
@@ -73,7 +73,7 @@ pub(crate) fn high_or_null(kind: &Kind) -> ValueRef<'_>
     }
 }
 
-/// The size of a text.
+/// Returns the size of a text, or NULL.
 pub(crate) fn size_or_null(kind: &Kind) -> ValueRef<'_>
     ensures { bound_value (owned result) ≡ optional number (kind_columns kind.now).size }
 {

@@ -1,5 +1,5 @@
-//! The calls that file forms, records, versions, entries and signatures in the tables of a file, each
-//! inside a transaction (21 CFR 11.10(e) and 11.70; ISO/IEC 17025:2017, 7.5.2).
+//! The calls that file forms, records, versions, entries and signatures in the tables of a file,
+//! each inside a transaction (21 CFR 11.10(e) and 11.70; ISO/IEC 17025:2017, 7.5.2).
 #![tactic(auto)]
 
 mod entries;

@@ -32,7 +32,7 @@ fn record_of(row: &Row) -> Result<RecordAt, Error>
     })
 }
 
-// The record that the first row shows. Where there is no row, none is named.
+// The record that the first row shows. Fails if there is no row, because no record is named then.
 fn first_record(rows: &[Row]) -> Result<RecordAt, Error>
     ensures { IfOk result (λ one.
         option_map record_read (slice_get rows.now 0) ≡ Some (one.id.id, one.current)) }
@@ -43,7 +43,7 @@ fn first_record(rows: &[Row]) -> Result<RecordAt, Error>
     }
 }
 
-// The rows of the record of the number, in the laboratory.
+// The rows of the record with the number, in the laboratory.
 fn record_rows<W: Writable>(tx: &mut W, lab: RowId, wanted: Ordinal) -> Result<Vec<Row>, Error>
     ensures { Answers W.lender W.state
         (λ rows. Finds (λ t. rows.items ≡ records_shown lab.id wanted t)) tx.old tx.new result }
@@ -54,10 +54,10 @@ fn record_rows<W: Writable>(tx: &mut W, lab: RowId, wanted: Ordinal) -> Result<V
     )
 }
 
-/// The record of the number, in the laboratory.
+/// Returns the record with the number, in the laboratory.
 ///
 /// # Errors
-/// Those of `Writable`, and that there is none.
+/// The errors of `Writable`, or no such row exists.
 pub fn record_at<W: Writable>(tx: &mut W, lab: RowId, wanted: Ordinal) -> Result<RecordAt, Error>
     ensures { Answers W.lender W.state (λ one. Finds (λ t.
         option_map record_pair (record_named t lab.id wanted) ≡ Some (one.id.id, one.current)))
@@ -67,7 +67,8 @@ pub fn record_at<W: Writable>(tx: &mut W, lab: RowId, wanted: Ordinal) -> Result
     first_record(&rows)
 }
 
-// The version that the first row shows. Where there is no row, or the row shows NULL, no version is named.
+// The version that the first row shows. Fails if there is no row, or if the row shows NULL, because
+// no version is named then.
 fn first_version(rows: &[Row]) -> Result<RowId, Error>
     ensures { IfOk result (λ one.
         option_map first_value (slice_get rows.now 0) ≡ Some (Int one.id)) }
@@ -82,7 +83,7 @@ fn first_version(rows: &[Row]) -> Result<RowId, Error>
     }
 }
 
-// The rows of the current version of the record of the number, in the laboratory.
+// The rows of the current version of the record with the number, in the laboratory.
 fn current_rows<W: Writable>(tx: &mut W, lab: RowId, wanted: Ordinal) -> Result<Vec<Row>, Error>
     ensures { Answers W.lender W.state
         (λ rows. Finds (λ t. rows.items ≡ versions_shown current_of lab.id wanted t))
@@ -94,10 +95,10 @@ fn current_rows<W: Writable>(tx: &mut W, lab: RowId, wanted: Ordinal) -> Result<
     )
 }
 
-/// The current version of the record of the number, in the laboratory.
+/// Returns the current version of the record with the number, in the laboratory.
 ///
 /// # Errors
-/// Those of `Writable`, and that there is none.
+/// The errors of `Writable`, or no such row exists.
 pub(crate) fn current_version_at<W: Writable>(
     tx: &mut W,
     lab: RowId,
@@ -111,7 +112,7 @@ pub(crate) fn current_version_at<W: Writable>(
     first_version(&rows)
 }
 
-// The rows of the version of the record of the number, in the laboratory.
+// The rows of the version of the record with the number, in the laboratory.
 fn version_rows<W: Writable>(
     tx: &mut W,
     lab: RowId,
@@ -128,10 +129,10 @@ fn version_rows<W: Writable>(
     )
 }
 
-/// The version of the record of the number, in the laboratory.
+/// Returns the version of the record with the number, in the laboratory.
 ///
 /// # Errors
-/// Those of `Writable`, and that there is none.
+/// The errors of `Writable`, or no such row exists.
 pub(crate) fn version_at<W: Writable>(
     tx: &mut W,
     lab: RowId,

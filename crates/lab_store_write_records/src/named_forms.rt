@@ -27,10 +27,10 @@ fn form_rows<W: Writable>(
     )
 }
 
-/// The version of the form, in the laboratory.
+/// Returns the id of the version of the form, in the laboratory.
 ///
 /// # Errors
-/// Those of `Writable`, and that there is none.
+/// The errors of `Writable`, or no such row exists.
 pub(crate) fn form_id_at<W: Writable>(
     tx: &mut W,
     lab: RowId,

@@ -1,4 +1,4 @@
-//! The place behind the rows that a parent has.
+//! The place after the rows that a parent has.
 
 ghost use Rattle.std.specs.Prelude.{◌≡◌, ◌+◌, filter, length};
 ghost use Rattle.lab_store_write.specs.Calls.{Answers, Finds};
@@ -8,10 +8,10 @@ ghost use Rattle.lab_store_write_records.specs.VersionsShown.{is_entry_of, is_si
 use lab_store_write::{RowId, Writable, place_below};
 use sqlite::Error;
 
-/// The place behind the fields of the form.
+/// Returns the place after the fields of the form.
 ///
 /// # Errors
-/// The store refused, or memory ran out.
+/// The store failed, or memory ran out.
 pub(crate) fn field_place<W: Writable>(tx: &mut W, parent: RowId) -> Result<u64, Error>
     ensures { Answers W.lender W.state
         (λ place. Finds (λ t. place ≡ length (filter (is_field_of parent.id) t.fields) + 1))
@@ -24,10 +24,10 @@ pub(crate) fn field_place<W: Writable>(tx: &mut W, parent: RowId) -> Result<u64,
     )
 }
 
-/// The place behind the choices of the field.
+/// Returns the place after the choices of the field.
 ///
 /// # Errors
-/// The store refused, or memory ran out.
+/// The store failed, or memory ran out.
 pub(crate) fn choice_place<W: Writable>(tx: &mut W, parent: RowId) -> Result<u64, Error>
     ensures { Answers W.lender W.state
         (λ place. Finds (λ t. place ≡ length (filter (is_choice_of parent.id) t.choices) + 1))
@@ -40,10 +40,10 @@ pub(crate) fn choice_place<W: Writable>(tx: &mut W, parent: RowId) -> Result<u64
     )
 }
 
-/// The place behind the entries of the version.
+/// Returns the place after the entries of the version.
 ///
 /// # Errors
-/// The store refused, or memory ran out.
+/// The store failed, or memory ran out.
 pub(crate) fn entry_place<W: Writable>(tx: &mut W, parent: RowId) -> Result<u64, Error>
     ensures { Answers W.lender W.state
         (λ place. Finds (λ t. place ≡ length (filter (is_entry_of parent.id) t.entries) + 1))
@@ -56,10 +56,10 @@ pub(crate) fn entry_place<W: Writable>(tx: &mut W, parent: RowId) -> Result<u64,
     )
 }
 
-/// The place behind the signatures of the version.
+/// Returns the place after the signatures of the version.
 ///
 /// # Errors
-/// The store refused, or memory ran out.
+/// The store failed, or memory ran out.
 pub(crate) fn signature_place<W: Writable>(tx: &mut W, parent: RowId) -> Result<u64, Error>
     ensures { Answers W.lender W.state
         (λ place. Finds (λ t. place ≡ length (filter (is_signature_of parent.id) t.signatures) + 1))

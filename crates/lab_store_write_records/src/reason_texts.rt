@@ -10,7 +10,7 @@ ghost use Rattle.lab_store_write_records.specs.Texts.{amendment_reason};
 use lab_seal_versions::Amendment;
 use sqlite::types::ValueRef;
 
-/// Why a version amends the one before it; the first version has no reason.
+/// Returns why a version amends the version before it, or NULL: the first version has no reason.
 pub(crate) fn cause_or_null(amendment: &Option<Amendment>) -> ValueRef<'_>
     ensures { bound_value (owned result)
         ≡ optional Text (option_map amendment_reason amendment.now) }

@@ -80,7 +80,7 @@ fn add_versions<W: Writable>(
 /// Adds a record with its versions.
 ///
 /// # Errors
-/// Those of `Writable`, and that there is no such version of a form, or nobody of a code.
+/// The errors of `Writable`, or no such version of a form exists, or nobody has one of the codes.
 pub fn add_record<W: Writable>(tx: &mut W, lab: RowId, kept: &Record) -> Result<(), Error>
     ensures { Writes W.lender W.state (AppliesIn lab.id (RecordAdded kept.now))
         tx.old tx.new result }

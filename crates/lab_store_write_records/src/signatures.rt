@@ -1,4 +1,4 @@
-//! Signatures of a version, each behind those that it has.
+//! The signatures of a version, each added after those that the version has.
 
 ghost use Rattle.std.specs.Prelude.{◌≡◌, Some};
 ghost use Rattle.lab_records_kept.specs.declared.changes.Change.TheVariants.{SignatureAdded};
@@ -49,7 +49,7 @@ fn insert_signature<W: Writable>(
     )
 }
 
-// Adds a signature behind those that the version has. Who signed has the id.
+// Adds a signature after those that the version has. The signer has the id.
 fn add_signature_of<W: Writable>(
     tx: &mut W,
     version: RowId,
@@ -64,10 +64,10 @@ fn add_signature_of<W: Writable>(
     Ok(())
 }
 
-/// Adds a signature behind those that the version has.
+/// Adds a signature after those that the version has.
 ///
 /// # Errors
-/// Those of `Writable`, and that nobody has the code of who signed.
+/// The errors of `Writable`, or nobody has the code of the signer.
 pub fn add_signature<W: Writable>(
     tx: &mut W,
     lab: RowId,
@@ -81,10 +81,10 @@ pub fn add_signature<W: Writable>(
     add_signature_of(tx, version, person, signature)
 }
 
-/// Adds a signature of a version of a record. Who signed has the id.
+/// Adds a signature of a version of a record. The signer has the id.
 ///
 /// # Errors
-/// Those of `Writable`, and that there is no such version.
+/// The errors of `Writable`, or no such version exists.
 pub fn sign_version_of<W: Writable>(
     tx: &mut W,
     lab: RowId,
@@ -104,7 +104,7 @@ pub fn sign_version_of<W: Writable>(
 /// Adds a signature of a version of a record.
 ///
 /// # Errors
-/// Those of `Writable`, and that there is no such version, or nobody of the code.
+/// The errors of `Writable`, or no such version exists, or nobody has the code.
 pub fn sign_version<W: Writable>(
     tx: &mut W,
     lab: RowId,

@@ -11,7 +11,7 @@ use lab_forms_texts::Note;
 use lab_seal_versions::Meaning;
 use sqlite::types::ValueRef;
 
-/// A note, or NULL.
+/// Returns a note, or NULL.
 pub(crate) fn note_or_null(note: &Option<Note>) -> ValueRef<'_>
     ensures { bound_value (owned result) ≡ optional Text note.now }
 {
@@ -21,7 +21,7 @@ pub(crate) fn note_or_null(note: &Option<Note>) -> ValueRef<'_>
     }
 }
 
-/// The reason of a rejection; the other meanings have none.
+/// Returns the reason of a rejection, or NULL: the other meanings have none.
 pub(crate) fn reason_or_null(meaning: &Meaning) -> ValueRef<'_>
     ensures { bound_value (owned result) ≡ optional Text (reason_column meaning.now) }
 {

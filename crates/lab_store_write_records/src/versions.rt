@@ -58,7 +58,7 @@ fn insert_version<W: Writable>(
     )
 }
 
-// Adds entries, one behind the other.
+// Adds entries, one after the other.
 fn add_entries<W: Writable>(
     tx: &mut W,
     lab: RowId,
@@ -74,7 +74,7 @@ fn add_entries<W: Writable>(
     Ok(())
 }
 
-// Adds signatures, one behind the other.
+// Adds signatures, one after the other.
 fn add_signatures<W: Writable>(
     tx: &mut W,
     lab: RowId,
@@ -93,7 +93,7 @@ fn add_signatures<W: Writable>(
 /// Adds a version with its rows and its signatures.
 ///
 /// # Errors
-/// Those of `Writable`, and that nobody has the code of who opened, entered or signed.
+/// The errors of `Writable`, or nobody has the code of a person who opened, entered or signed.
 pub(crate) fn add_version<W: Writable>(
     tx: &mut W,
     lab: RowId,
@@ -122,10 +122,10 @@ fn set_current<W: Writable>(tx: &mut W, kept: RowId, version: Ordinal) -> Result
     )
 }
 
-/// Adds a version of a record, which is then the current one.
+/// Adds a version of a record, which becomes the current one.
 ///
 /// # Errors
-/// Those of `Writable`, and that there is no record of the number, or nobody of a code.
+/// The errors of `Writable`, or no record has the number, or nobody has one of the codes.
 pub fn open_version<W: Writable>(
     tx: &mut W,
     lab: RowId,

@@ -1,4 +1,5 @@
-//! What the bytes of a request ask: first the request, then where it goes and what it asks there.
+//! What the bytes of a request ask: first the request is read, then where it goes and what it asks
+//! there.
 ghost use Rattle.std.specs.Prelude.{◌≡◌, ℕ, List, Ok, IfOk, IfErr};
 ghost use Rattle.lab_wire_heads.specs.Requests.{parts_shown, request_in};
 ghost use Rattle.lab_wire.specs.Asked.{asked, RequestFaultFits};
@@ -9,7 +10,7 @@ use lab_wire_heads::{RequestParts, request_parts};
 use lab_wire_received::Received;
 use std::alloc::Global;
 
-// What bytes ask that have these parts.
+// What bytes with these parts ask.
 fn ask_of(alloc: Global, routes: &Routes, parts: &RequestParts<'_>) -> Result<Asked, RequestFault>
     ensures asks { (bytes : List ℕ) → request_in bytes ≡ Ok (parts_shown parts.now) →
         IfOk result (λ asks. asked bytes ≡ Ok asks) }
@@ -25,15 +26,19 @@ fn ask_of(alloc: Global, routes: &Routes, parts: &RequestParts<'_>) -> Result<As
     }
 }
 
-/// Reads what the bytes of a request ask of which laboratory. What follows the request's body is passed over.
+/// Reads what the bytes of a request ask, and of which laboratory. Ignores what follows the
+/// request's body.
 ///
 /// # Errors
-/// The first that holds:
-/// - `Head`, as `request_parts` has it, where the bytes begin with no request whose body may be read and came whole;
-/// - `Route(NoRoute)` where its path is of no laboratory whose code reads, or no place in one;
-/// - `Route(Method)` where the place has other methods;
-/// - `Route(Body)` where the query or the body that the command has is refused;
-/// - that memory ran out, where it is known what the request asks, or it posts a body with a byte.
+/// The first of these that holds:
+/// - `Head`, as `request_parts` returns it, if the bytes don't begin with a request whose body may
+///   be read and is whole;
+/// - `Route(NoRoute)` if the laboratory code in the path is malformed, or the path isn't a place in
+///   a laboratory;
+/// - `Route(Method)` if the place has only other methods;
+/// - `Route(Body)` if the query or the body that the command needs is refused;
+/// - out of memory, only if it is known what the request asks, or if the request posts a body with
+///   a byte.
 pub fn ask(alloc: Global, routes: &Routes, bytes: &[u8]) -> Result<Asked, RequestFault>
     ensures asks { IfOk result (λ asks. asked bytes.now ≡ Ok asks) }
     ensures fault { IfErr result (RequestFaultFits bytes.now) }
@@ -44,10 +49,10 @@ pub fn ask(alloc: Global, routes: &Routes, bytes: &[u8]) -> Result<Asked, Reques
     }
 }
 
-/// What a request that was received asks of which laboratory: its head isn't read again.
+/// Returns what a received request asks, and of which laboratory. Doesn't read its head again.
 ///
 /// # Errors
-/// Those of `ask`, except `Head`.
+/// The errors of `ask`, except `Head`.
 pub fn ask_received(
     alloc: Global,
     routes: &Routes,

@@ -1,4 +1,5 @@
-//! What a request asks where it goes: the command of its route, with the query or the body that the command has.
+//! What a request asks at the place where it goes: the command of its route, with the query or the
+//! body that the command needs.
 ghost use Rattle.std.specs.Prelude.{◌≡◌, ◌<◌, Ok, Err, IfOk, IfErr, IsTrue, IsSome, length, option_map};
 ghost use Rattle.lab_forms_texts.specs.Names.{is_key, is_lab_code};
 ghost use Rattle.lab_wire_heads.specs.Requests.{parts_shown};
@@ -23,7 +24,7 @@ use lab_wire_heads::RequestParts;
 use lab_wire_members::{BodyFault, BodyRefusal};
 use std::alloc::Global;
 
-/// What a request asks, of which laboratory.
+/// What a request asks, and of which laboratory.
 #[derive(Drop)]
 pub struct Asked {
     /// The laboratory.
@@ -32,7 +33,7 @@ pub struct Asked {
     pub instruction: Instruction,
 }
 
-/// What is answered where a query gives no range.
+/// The fault if a query states no range.
 const BAD_QUERY: RouteFault = RouteFault::Refused(RouteRefusal::Body(BodyRefusal::BadBody));
 
 // The number in a segment that the route's row has admitted.
@@ -47,7 +48,7 @@ fn number_at(i: usize, place: &str) -> Ordinal
     }
 }
 
-// A command that reads, as one that is given in a session.
+// A reading command, as one that is given in a session.
 fn reads_in(command: ReadingCommand) -> Command
     ensures { result ≡ reads_in command }
 {
@@ -163,7 +164,7 @@ fn command_at(alloc: Global, to: &Destination<'_>, body: &[u8]) -> Result<Comman
     }
 }
 
-// What is asked of the laboratory of the code, by a command that is known.
+// The request to the laboratory with the code, once its command is known.
 fn asked_of(
     alloc: Global,
     lab: &str,
@@ -187,8 +188,8 @@ fn asked_of(
     }
 }
 
-// What a request asks where it goes. Its command is found before its laboratory's code is copied,
-// so a bad query or an empty body is never told as out of memory.
+// What a request asks at the place where it goes. Its command is found before its laboratory's code
+// is copied, so a bad query or an empty body is never reported as out of memory.
 #[tactic(auto, using(crate::proofs::CommandLemmas::asking))]
 fn asked_at(
     alloc: Global,
@@ -210,13 +211,14 @@ fn asked_at(
     }
 }
 
-/// What a request asks of which laboratory.
+/// Returns what a request asks, and of which laboratory.
 ///
 /// # Errors
-/// - `NoRoute` where the path is of no laboratory whose code reads, or no place in one;
-/// - else `Method` where the place has other methods;
-/// - else `Body` where the query or the body that the command has is refused;
-/// - that memory ran out, where it is known what the request asks, or a body with a byte is posted.
+/// - `NoRoute` if the laboratory code in the path is malformed, or the path isn't a place in a
+///   laboratory;
+/// - otherwise `Method` if the place has only other methods;
+/// - otherwise `Body` if the query or the body that the command needs is refused;
+/// - out of memory, only if it is known what the request asks, or if a body with a byte is posted.
 pub fn command_of(
     alloc: Global,
     routes: &Routes,

@@ -1,5 +1,6 @@
-//! The wire of Koghdise: what the bytes of an HTTP/1.1 request ask of which laboratory, and the bytes of
-//! each answer (RFC 9110 and RFC 9112). What the layers above name of the crates below is passed on.
+//! The wire of Koghdise: what the bytes of an HTTP/1.1 request ask of which laboratory, and the
+//! bytes of each answer (RFC 9110 and RFC 9112). This crate re-exports what the layers above name
+//! from the crates below.
 #![tactic(auto)]
 
 mod asked;

@@ -8,7 +8,8 @@ use lab_seal::fields::value_of;
 /// The last ordinal.
 const LAST: usize = 1_000_000_000;
 
-/// The number of a record, of a version, or of a row of the trail, by its decimal digits without leading zeros.
+/// Returns the number of a record, of a version, or of a row of the trail, from its decimal digits
+/// without leading zeros.
 pub fn ordinal_in(digits: &str) -> Option<Ordinal>
     ensures { result ≡ ordinal_in digits.now }
 {

@@ -2,21 +2,21 @@
 ghost use Rattle.std.specs.Prelude.{◌≡◌, ◌∷◌, [], option_map, MatchOption};
 ghost use Rattle.lab_wire.specs.Paths.{path_of, query_of, behind, lab_in, place_in, segments, segment_at};
 
-/// The path of a target, which a query may follow.
+/// Returns the path of a target, which a query may follow.
 pub fn path_of(target: &str) -> &str
     ensures { result.now ≡ path_of target.now }
 {
     target.split_once('?').map_or(target, |(path, _)| path)
 }
 
-/// The query of a target, nothing where there is none.
+/// Returns the query of a target, or the empty text if the target has none.
 pub fn query_of(target: &str) -> &str
     ensures { result.now ≡ query_of target.now }
 {
     target.split_once('?').map_or("", |(_, query)| query)
 }
 
-/// What stands behind a prefix.
+/// Returns the text after a prefix.
 #[tactic(auto, using(crate::proofs::PathLemmas::behind_is))]
 pub fn behind<'t>(prefix: &str, text: &'t str) -> Option<&'t str>
     ensures { option_map (λ rest. rest.now) result ≡ behind prefix.now text.now }
@@ -24,14 +24,14 @@ pub fn behind<'t>(prefix: &str, text: &'t str) -> Option<&'t str>
     text.strip_prefix(prefix)
 }
 
-/// The first segment, which is the laboratory behind the prefix of laboratories.
+/// Returns the first segment: the laboratory's code, which follows the prefix of laboratories.
 pub fn lab_in(rest: &str) -> &str
     ensures { result.now ≡ lab_in rest.now }
 {
     rest.split_once('/').map_or(rest, |(lab, _)| lab)
 }
 
-/// The place in the laboratory: what follows the first segment, from the slash on.
+/// Returns the place in the laboratory: what follows the first segment, from the slash on.
 #[tactic(auto, using(crate::proofs::PathLemmas::place_behind))]
 pub fn place_in(rest: &str) -> &str
     ensures { result.now ≡ place_in rest.now }
@@ -42,7 +42,7 @@ pub fn place_in(rest: &str) -> &str
     }
 }
 
-/// The first segment of a place, and the place behind it.
+/// Returns the first segment of a place, and the place after it.
 pub fn next_segment(place: &str) -> Option<(&str, &str)>
     ensures { MatchOption result (segments place.now ≡ []) (λ found.
         segments place.now ≡ found.0.now ∷ segments found.1.now) }
@@ -53,7 +53,7 @@ pub fn next_segment(place: &str) -> Option<(&str, &str)>
     }
 }
 
-/// The segment at a number, counted from 0.
+/// Returns the segment with a number, counted from 0.
 #[tactic(auto, using(crate::proofs::PathLemmas::at_number))]
 pub fn segment_at(i: usize, place: &str) -> &str
     ensures { result.now ≡ segment_at i place.now }

@@ -1,4 +1,4 @@
-//! The query of a reading of records or of the trail, or of a copy.
+//! The query of a request that reads records or the trail, or takes a copy.
 ghost use Rattle.std.specs.Prelude.{◌≡◌, ◌∷◌};
 ghost use Rattle.std.specs.List.{slice_split};
 ghost use Rattle.lab_wire.specs.Queries.{number_behind, range_of, is_ampersand, range_by, range_in};
@@ -10,16 +10,16 @@ use lab_forms_texts::Ordinal;
 /// How far the last number of a range may be from its first.
 const RANGE_LIMIT: u32 = 99;
 
-/// From a number to a number, both among them.
+/// A range of numbers, with its first and its last.
 #[derive(Clone, Copy, Debug, PartialEq, Eq, Drop)]
 pub struct Range {
-    /// The first.
+    /// The first number.
     pub from: Ordinal,
-    /// The last.
+    /// The last number.
     pub to: Ordinal,
 }
 
-// The number that a member gives behind its name.
+// The number that follows a member's name.
 fn number_behind(name: &str, piece: &str) -> Option<Ordinal>
     ensures { result ≡ number_behind name.now piece.now }
 {
@@ -39,7 +39,7 @@ fn range_of(from: Option<Ordinal>, to: Option<Ordinal>) -> Option<Range>
     }
 }
 
-// The range of a first member and the others: one other.
+// The range of a first member and the others, which must be one.
 fn range_by(one: &str, others: &str) -> Option<Range>
     ensures { result ≡ range_by (one.now ∷ slice_split is_ampersand others.now) }
 {
@@ -49,7 +49,7 @@ fn range_by(one: &str, others: &str) -> Option<Range>
     }
 }
 
-/// The range that a query gives: exactly `from=A&to=B`, of at most a hundred numbers.
+/// Returns the range of a query: exactly `from=A&to=B`, of at most a hundred numbers.
 pub fn range_in(query: &str) -> Option<Range>
     ensures { result ≡ range_in query.now }
 {

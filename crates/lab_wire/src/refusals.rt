@@ -1,5 +1,5 @@
-//! What the wire refuses: bytes that are no request, and requests that ask nothing. Each refusal has a number and a word, by
-//! which the interface tells it.
+//! What the wire refuses: bytes that aren't a request, and requests that ask nothing. Each refusal
+//! has a number and a word, with which the interface reports it.
 ghost use Rattle.lab_wire.specs.Refusals.{request_entry};
 
 use crate::RouteRefusal;
@@ -9,7 +9,7 @@ use lab_wire_heads::HeadRefusal;
 /// Why bytes ask nothing of a laboratory.
 #[derive(Clone, Copy, Debug, PartialEq, Eq)]
 pub enum RequestRefusal {
-    /// They begin with no request that may be read.
+    /// The bytes don't begin with a request that may be read.
     Head(HeadRefusal),
     /// The request asks nothing.
     Route(RouteRefusal),

@@ -1,4 +1,5 @@
-//! Answers as bytes: HTTP/1.1 messages (RFC 9112) whose bodies are JSON (RFC 8259), or a copy as CSV (RFC 4180).
+//! Answers as bytes: HTTP/1.1 messages (RFC 9112) whose bodies are JSON (RFC 8259), or a copy as
+//! CSV (RFC 4180).
 ghost use Rattle.std.specs.Prelude.{◌≡◌, IfOk, string_bytes};
 ghost use Rattle.lab_wire_replies.specs.Replies.{body_of};
 ghost use Rattle.lab_wire.specs.Replies.{body_type, answer_type, entry_text, answer_text, challenge_field, allow_by_route, allow_by_request, allow_field, further_fields, reply_text, memory_text};
@@ -20,13 +21,13 @@ const JSON: &str = "application/json";
 /// The type of a body that is a copy.
 const CSV: &str = "text/csv";
 
-/// What is answered to a request.
+/// The answer to a request.
 pub enum Answer {
     /// The laboratory's reply.
     Replied(Reply),
     /// The bytes ask nothing.
     Refused(RequestRefusal),
-    /// The store refused; nothing was changed.
+    /// The store failed; nothing was changed.
     Storage,
 }
 
@@ -41,7 +42,7 @@ impl Drop for Answer {
     }
 }
 
-/// The bytes of an answer at a tick. The only error is out of memory.
+/// Returns the bytes of an answer at a tick. Fails only if memory runs out.
 ///
 /// # Errors
 /// Memory ran out.
@@ -61,7 +62,8 @@ pub fn reply_bytes(alloc: Global, tick: &Tick, answer: &Answer) -> Result<Vec<u8
     )
 }
 
-/// The bytes of the reply that is sent where memory runs out, which are the same always. The only error is out of memory.
+/// Returns the bytes of the reply that is sent if memory runs out; they are always the same. Fails
+/// only if memory runs out.
 ///
 /// # Errors
 /// Memory ran out.
@@ -102,7 +104,7 @@ fn answer_type(answer: &Answer) -> &'static str
     }
 }
 
-// A refusal that tells its word and its number alone.
+// The body of a refusal with only its word and its number.
 #[tactic(auto, using(crate::proofs::ReplyLemmas::entry_floats))]
 fn entry_body(alloc: Global, number: u32, word: &str) -> Result<Vec<u8>, OutOfMemory>
     ensures { IfOk result (λ body. body.items
@@ -129,7 +131,7 @@ fn answer_body(alloc: Global, answer: &Answer) -> Result<Vec<u8>, OutOfMemory>
 
 // ---- the fields that a status asks for
 
-// For 401: by what a client shows who it is.
+// For 401: how a client shows who it is.
 fn challenge_field(status: StatusCode) -> &'static str
     ensures { result.now ≡ challenge_field status }
 {

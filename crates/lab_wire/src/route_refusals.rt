@@ -1,5 +1,5 @@
-//! What an accepted request is refused for, and the methods that a refusal tells. Each refusal has a number and a word,
-//! by which the interface tells it.
+//! Why an accepted request is refused, and the methods that a refusal lists. Each refusal has a
+//! number and a word, with which the interface reports it.
 ghost use Rattle.std.specs.Prelude.{◌≡◌};
 ghost use Rattle.lab_wire.specs.RouteRefusals.{allowed_text, route_entry};
 
@@ -9,16 +9,16 @@ use lab_wire_members::BodyRefusal;
 /// The methods that a place has commands for.
 #[derive(Clone, Copy, Debug, PartialEq, Eq)]
 pub enum Allowed {
-    /// It is read alone.
+    /// The place can only be read.
     Get,
-    /// It is posted to alone.
+    /// The place can only be posted to.
     Post,
-    /// Both.
+    /// The place can be read and posted to.
     GetOrPost,
 }
 
 impl Allowed {
-    /// The methods, as a list.
+    /// Returns the methods, as a list.
     pub fn text(&self) -> &'static str
         ensures { result.now ≡ allowed_text self.now }
     {
@@ -33,11 +33,11 @@ impl Allowed {
 /// Why a request asks nothing of a laboratory.
 #[derive(Clone, Copy, Debug, PartialEq, Eq)]
 pub enum RouteRefusal {
-    /// There is no such place.
+    /// No such place exists.
     NoRoute,
-    /// The place has other methods.
+    /// The place has only other methods.
     Method(Allowed),
-    /// Its query or its body is another.
+    /// The query or the body isn't what the command needs.
     Body(BodyRefusal),
 }
 

@@ -1,5 +1,5 @@
 //! Where a request goes, by its method and its path: a table with each place in a laboratory, and
-//! the router of it.
+//! the router of this table.
 ghost use Rattle.std.specs.Prelude.{◌≡◌, ◌<◌, length, option_map, map, Ok, Err, IfOk, IfErr};
 ghost use Rattle.matchit.specs.Seek.{first};
 ghost use Rattle.matchit.specs.declared.error.InsertError.TheVariants.{OutOfMemory as MemoryRanOut};
@@ -18,7 +18,7 @@ use matchit::{InsertError, Router};
 use std::alloc::Global;
 use std::marker::Model;
 
-/// What is asked of a laboratory, by a method and a place.
+/// What a request asks of a laboratory, by its method and its place.
 #[derive(Clone, Copy, Debug, PartialEq, Eq, Drop)]
 pub enum Route {
     /// Its card.
@@ -45,11 +45,11 @@ pub enum Route {
 /// number.
 #[derive(Clone, Copy, Drop)]
 pub struct Place {
-    /// How the table writes it.
+    /// The place, as the table writes it.
     pub text: &'static str,
-    /// What is read there.
+    /// What a GET of the place reads.
     pub get: Option<Route>,
-    /// What is posted there.
+    /// What a POST to the place does.
     pub post: Option<Route>,
 }
 
@@ -62,11 +62,11 @@ pub struct Destination<'t> {
     pub place: &'t str,
     /// The query, as written.
     pub query: &'t str,
-    /// What is asked.
+    /// What the request asks.
     pub route: Route,
 }
 
-// A place that is read alone.
+// A place that can only be read.
 macro_rules! gets {
     ($text:literal, $route:ident) => {
         Place {
@@ -77,7 +77,7 @@ macro_rules! gets {
     };
 }
 
-// A place that is posted to alone.
+// A place that can only be posted to.
 macro_rules! posts {
     ($text:literal, $post:ident) => {
         Place {
@@ -88,7 +88,7 @@ macro_rules! posts {
     };
 }
 
-// A place that is read, and posted to.
+// A place that can be read and posted to.
 macro_rules! both {
     ($text:literal, $route:ident, $post:ident) => {
         Place {
@@ -99,7 +99,7 @@ macro_rules! both {
     };
 }
 
-/// What the paths of laboratories begin with.
+/// The start of the paths of laboratories.
 const LABS_PREFIX: &str = "/labs/";
 
 /// The places of the table, each once.
@@ -143,7 +143,8 @@ fn place_of_number(number: usize) -> Place
     table[number]
 }
 
-// Why a place of the table doesn't go into a router: its text reads, and it conflicts with none.
+// Why a place of the table can't be added to a router: only memory, since its text is good and it
+// conflicts with no other.
 fn memory_alone(fault: InsertError) -> OutOfMemory
     requires { fault ≡ MemoryRanOut }
 {
@@ -165,7 +166,7 @@ fn is_key_mark(mark: &str) -> bool
     mark == "{form}"
 }
 
-// Whether a segment of a row admits a segment in its place.
+// Whether a segment of the table's text admits a segment of a path.
 #[tactic(auto, unfolding(crate::specs::Routes::admits))]
 fn admits(mark: &str, segment: &str) -> bool
     ensures { result ≡ admits mark.now segment.now }
@@ -179,7 +180,8 @@ fn admits(mark: &str, segment: &str) -> bool
     }
 }
 
-// Whether a place's text admits a place: as many segments, each admitted.
+// Whether a place's text admits a place: the two have the same number of segments, and each is
+// admitted.
 fn is_to(place: &str, text: &str) -> bool
     ensures { result ≡ all_admitted (segments text.now) (segments place.now) }
 {
@@ -198,7 +200,7 @@ fn is_to(place: &str, text: &str) -> bool
 }
 
 impl Place {
-    // What is asked by the method of a name.
+    // What the method with a name asks.
     fn route_named(&self, name: &str) -> Option<Route>
         ensures { result ≡ asked_by name.now (place_shown self.now) }
     {
@@ -211,8 +213,8 @@ impl Place {
         }
     }
 
-    // What is asked by a method. Only a method of more than 15 bytes takes memory. Where there is
-    // none, it isn't read, and no place has such a method.
+    // What a method asks. Only a method of more than 15 bytes needs memory. If memory runs out, the
+    // method isn't read, and no place has such a method.
     fn by(&self, alloc: Global, method: &[u8]) -> Option<Route>
         ensures { result ≡ asked_by method.now (place_shown self.now) }
     {
@@ -222,7 +224,7 @@ impl Place {
         }
     }
 
-    // The route by a method, which has to be one of its own.
+    // The route of a method, which must be one of the place's own.
     fn route_by(&self, alloc: Global, method: &[u8]) -> Result<Route, RouteRefusal>
         ensures { result ≡ route_or_methods (asked_by method.now (place_shown self.now))
             (allowed_at (place_shown self.now)) }
@@ -233,7 +235,7 @@ impl Place {
         }
     }
 
-    // The methods by which something is asked.
+    // The methods that the place has.
     fn allowed_methods(&self) -> Allowed
         ensures { result ≡ allowed_at (place_shown self.now) }
     {
@@ -249,7 +251,7 @@ impl Place {
 #[derive(Drop)]
 pub struct Routes {
     alloc: Global,
-    // The number of each place in the table.
+    // A router to the number of each place in the table.
     router: Router<usize>,
 }
 
@@ -265,10 +267,10 @@ impl Model for Routes {
 }
 
 impl Routes {
-    /// The routes of the table.
+    /// Returns the routes of the table.
     ///
     /// # Errors
-    /// Only that memory ran out.
+    /// Memory ran out.
     pub fn new(alloc: Global) -> Result<Routes, OutOfMemory> {
         let table = places();
         let mut router = Router::new(alloc);
@@ -282,7 +284,7 @@ impl Routes {
         Ok(Routes { alloc, router })
     }
 
-    // The number of the place that the router finds, by its words alone.
+    // The number of the place that the router finds, by its words only.
     fn number_of(&self, place: &str) -> Option<usize>
         ensures { result ≡ option_map (λ found. found.value) (first router_of_table place.now) }
     {
@@ -292,8 +294,8 @@ impl Routes {
         }
     }
 
-    // The place of the table for what follows a laboratory's code. The router finds it by its
-    // words; then each segment is looked at: it has to be admitted.
+    // The place of the table for what follows a laboratory's code. The router finds the place by
+    // its words; then each segment is checked, and must be admitted.
     fn place_to(&self, rest: &str) -> Option<Place>
         ensures { option_map place_shown result ≡ place_to (place_in rest.now) }
     {
@@ -309,8 +311,8 @@ impl Routes {
         }
     }
 
-    // The route by a method to the place behind a laboratory's code: first the place has to be one,
-    // then the method one of its own.
+    // The route of a method at the place after a laboratory's code: first the place must exist,
+    // then the method must be one of its own.
     fn route_of(&self, method: &[u8], rest: &str) -> Result<Route, RouteRefusal>
         ensures { result ≡ route_of method.now (place_in rest.now) }
     {
@@ -320,11 +322,12 @@ impl Routes {
         }
     }
 
-    /// Where a method and a target go.
+    /// Returns where a method and a target go.
     ///
     /// # Errors
-    /// - `NoRoute` where the path is of no laboratory whose code reads, or no place in one;
-    /// - else `Method` where the place has other methods.
+    /// - `NoRoute` if the laboratory code in the path is malformed, or the path isn't a place in a
+    ///   laboratory;
+    /// - otherwise `Method` if the place has only other methods.
     #[tactic(auto, unfolding(crate::specs::Routes::destination_of))]
     pub fn destination_of<'t>(
         &self,

@@ -13,7 +13,7 @@ use lab_records_rules::Refusal;
 use lab_wire_heads::HeadRefusal;
 use lab_wire_members::BodyRefusal;
 
-// Of forms and values.
+// The statuses of refusals about forms and values.
 fn form_status(refusal: FormRefusal) -> StatusCode
     ensures { result ≡ form_status refusal }
 {
@@ -29,7 +29,7 @@ fn form_status(refusal: FormRefusal) -> StatusCode
     }
 }
 
-// Of persons and sessions.
+// The statuses of refusals about persons and sessions.
 fn people_status(refusal: PeopleRefusal) -> StatusCode
     ensures { result ≡ people_status refusal }
 {
@@ -51,7 +51,7 @@ fn people_status(refusal: PeopleRefusal) -> StatusCode
     }
 }
 
-// Of the machine.
+// The statuses of the machine's refusals.
 fn refusal_status(refusal: &Refusal) -> StatusCode
     ensures { result ≡ refusal_status refusal.now }
 {
@@ -80,7 +80,7 @@ fn refusal_status(refusal: &Refusal) -> StatusCode
     }
 }
 
-// Of bodies and queries.
+// The statuses of refusals about bodies and queries.
 fn body_status(refusal: BodyRefusal) -> StatusCode
     ensures { result ≡ body_status refusal }
 {
@@ -90,7 +90,7 @@ fn body_status(refusal: BodyRefusal) -> StatusCode
     }
 }
 
-// Of heads, and of how a body is sent.
+// The statuses of refusals about heads, and about how a body is sent.
 fn head_status(refusal: HeadRefusal) -> StatusCode
     ensures { result ≡ head_status refusal }
 {
@@ -104,7 +104,7 @@ fn head_status(refusal: HeadRefusal) -> StatusCode
     }
 }
 
-// Of routes.
+// The statuses of refusals about routes.
 fn route_status(refusal: RouteRefusal) -> StatusCode
     ensures { result ≡ route_status refusal }
 {
@@ -115,7 +115,7 @@ fn route_status(refusal: RouteRefusal) -> StatusCode
     }
 }
 
-// Of all that the wire refuses.
+// The statuses of all that the wire refuses.
 fn request_status(refusal: RequestRefusal) -> StatusCode
     ensures { result ≡ request_status refusal }
 {
@@ -125,7 +125,7 @@ fn request_status(refusal: RequestRefusal) -> StatusCode
     }
 }
 
-// Of replies: all is well but where a refusal is told.
+// The statuses of replies: each reply is a success unless it is a refusal.
 fn reply_status(reply: &Reply) -> StatusCode
     ensures { result ≡ reply_status reply.now }
 {
@@ -135,7 +135,7 @@ fn reply_status(reply: &Reply) -> StatusCode
     }
 }
 
-/// The status code of an answer.
+/// Returns the status code of an answer.
 pub fn answer_status(answer: &Answer) -> StatusCode
     ensures { result ≡ answer_status answer.now }
 {

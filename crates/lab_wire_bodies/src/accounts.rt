@@ -26,10 +26,10 @@ const ROLES: [Member; 2] = [must!("code", Text), must!("roles", Roles)];
 
 const PERSON: [Member; 1] = [must!("code", Text)];
 
-/// A session is opened.
+/// Reads the command that opens a session.
 ///
 /// # Errors
-/// The body's refusal, or memory ran out.
+/// The body is refused, or memory ran out.
 #[tactic(auto, using(lab_wire_members::proofs::ReadingLemmas::in_turn), unfolding(crate::specs::Accounts::opening_named))]
 pub fn opening(alloc: Global, value: &Value) -> Result<Command, BodyFault>
     ensures read { IfOk result (λ command. opening_named (view value.now) ≡ Ok command) }
@@ -43,7 +43,7 @@ pub fn opening(alloc: Global, value: &Value) -> Result<Command, BodyFault>
     Ok(Command::Open { code, password })
 }
 
-/// The session is closed.
+/// Returns the command that closes the session.
 ///
 /// # Errors
 /// Why the body is refused.
@@ -57,10 +57,10 @@ pub fn closing(value: &Value) -> Result<Command, BodyRefusal>
     Ok(Command::In(SessionCommand::OnAccount(AccountCommand::Close)))
 }
 
-/// A password is changed.
+/// Reads the command that changes a password.
 ///
 /// # Errors
-/// The body's refusal, or memory ran out.
+/// The body is refused, or memory ran out.
 #[tactic(auto, using(lab_wire_members::proofs::ReadingLemmas::in_turn), unfolding(crate::specs::Accounts::password_named))]
 pub fn password(alloc: Global, value: &Value) -> Result<Command, BodyFault>
     ensures read { IfOk result (λ command. password_named (view value.now) ≡ Ok command) }
@@ -74,10 +74,10 @@ pub fn password(alloc: Global, value: &Value) -> Result<Command, BodyFault>
     Ok(Command::In(SessionCommand::OnAccount(AccountCommand::ChangePassword { old, new })))
 }
 
-/// A person is enrolled.
+/// Reads the command that enrols a person.
 ///
 /// # Errors
-/// The body's refusal, or memory ran out.
+/// The body is refused, or memory ran out.
 #[tactic(auto, using(lab_wire_members::proofs::ReadingLemmas::in_turn), unfolding(crate::specs::Accounts::enrolment_named))]
 pub fn enrolment(alloc: Global, value: &Value) -> Result<Command, BodyFault>
     ensures read { IfOk result (λ command. enrolment_named (view value.now) ≡ Ok command) }
@@ -92,10 +92,10 @@ pub fn enrolment(alloc: Global, value: &Value) -> Result<Command, BodyFault>
     Ok(Command::In(SessionCommand::OnAccount(AccountCommand::Enrol { code, name, roles })))
 }
 
-/// A person's roles are set.
+/// Reads the command that sets a person's roles.
 ///
 /// # Errors
-/// The body's refusal, or memory ran out.
+/// The body is refused, or memory ran out.
 #[tactic(auto, using(lab_wire_members::proofs::ReadingLemmas::in_turn), unfolding(crate::specs::Accounts::roles_named))]
 pub fn setting_roles(alloc: Global, value: &Value) -> Result<Command, BodyFault>
     ensures read { IfOk result (λ command. roles_named (view value.now) ≡ Ok command) }
@@ -120,10 +120,10 @@ fn person(alloc: Global, value: &Value) -> Result<PersonCode, BodyFault>
     named_at::<PersonCodes>(alloc, value, "code")
 }
 
-/// A one-time password is asked for.
+/// Reads the command that asks for a one-time password.
 ///
 /// # Errors
-/// The body's refusal, or memory ran out.
+/// The body is refused, or memory ran out.
 #[tactic(auto, using(lab_wire_members::proofs::ReadingLemmas::in_turn), unfolding(crate::specs::Accounts::issue_named))]
 pub fn issue(alloc: Global, value: &Value) -> Result<Command, BodyFault>
     ensures read { IfOk result (λ command. issue_named (view value.now) ≡ Ok command) }
@@ -133,10 +133,10 @@ pub fn issue(alloc: Global, value: &Value) -> Result<Command, BodyFault>
     Ok(Command::In(SessionCommand::OnAccount(AccountCommand::AskIssue { code })))
 }
 
-/// A one-time password is confirmed.
+/// Reads the command that confirms a one-time password.
 ///
 /// # Errors
-/// The body's refusal, or memory ran out.
+/// The body is refused, or memory ran out.
 #[tactic(auto, using(lab_wire_members::proofs::ReadingLemmas::in_turn), unfolding(crate::specs::Accounts::confirmation_named))]
 pub fn confirmation(alloc: Global, value: &Value) -> Result<Command, BodyFault>
     ensures read { IfOk result (λ command. confirmation_named (view value.now) ≡ Ok command) }
@@ -146,10 +146,10 @@ pub fn confirmation(alloc: Global, value: &Value) -> Result<Command, BodyFault>
     Ok(Command::In(SessionCommand::OnAccount(AccountCommand::ConfirmIssue { code })))
 }
 
-/// A person has left.
+/// Reads the command that retires a person, who has left.
 ///
 /// # Errors
-/// The body's refusal, or memory ran out.
+/// The body is refused, or memory ran out.
 #[tactic(auto, using(lab_wire_members::proofs::ReadingLemmas::in_turn), unfolding(crate::specs::Accounts::retirement_named))]
 pub fn retirement(alloc: Global, value: &Value) -> Result<Command, BodyFault>
     ensures read { IfOk result (λ command. retirement_named (view value.now) ≡ Ok command) }
@@ -159,10 +159,10 @@ pub fn retirement(alloc: Global, value: &Value) -> Result<Command, BodyFault>
     Ok(Command::In(SessionCommand::OnAccount(AccountCommand::Retire { code })))
 }
 
-/// A person's lock is taken away.
+/// Reads the command that takes away a person's lock.
 ///
 /// # Errors
-/// The body's refusal, or memory ran out.
+/// The body is refused, or memory ran out.
 #[tactic(auto, using(lab_wire_members::proofs::ReadingLemmas::in_turn), unfolding(crate::specs::Accounts::unlocking_named))]
 pub fn unlocking(alloc: Global, value: &Value) -> Result<Command, BodyFault>
     ensures read { IfOk result (λ command. unlocking_named (view value.now) ≡ Ok command) }

@@ -1,4 +1,4 @@
-//! What a whole body names, from its bytes: the command that is posted, or the founding.
+//! What a whole body names, read from its bytes: the command of a POST, or the founding.
 ghost use Rattle.std.specs.Prelude.{◌≡◌, Ok, IfOk, IfErr};
 ghost use Rattle.serde_json.specs.View.{view};
 ghost use Rattle.lab_wire_members.specs.Readings.{FaultyInTurn};
@@ -44,13 +44,14 @@ pub enum Post {
     Sign,
 }
 
-/// The command that a body names, by what is posted.
+/// Reads the command that a body names, for the given kind of POST.
 ///
 /// # Errors
-/// - `BadBody` where it isn't an object of exactly the command's members, each of its kind;
-/// - else `BadName` where a code, key, name, unit or reason in it doesn't read;
-/// - else what is wrong with the fields of a form, or `KeyTwice` where an amendment alters one key twice;
-/// - that memory ran out, at any body but an empty one.
+/// - `BadBody` if the body isn't an object of exactly the command's members, each of its kind;
+/// - otherwise `BadName` if a code, key, name, unit or reason in it isn't allowed;
+/// - otherwise what is wrong with the fields of a form, or `KeyTwice` if an amendment alters one
+///   key twice;
+/// - out of memory, for any body except an empty one.
 #[tactic(auto, using(crate::proofs::BodyLemmas::of_body), unfolding(crate::specs::Bodies::body_named))]
 pub fn command_of(alloc: Global, post: Post, body: &[u8]) -> Result<Command, BodyFault>
     ensures read { IfOk result (λ command. body_named (post_named post) body.now ≡ Ok command) }
@@ -62,12 +63,12 @@ pub fn command_of(alloc: Global, post: Post, body: &[u8]) -> Result<Command, Bod
     }
 }
 
-/// The founding that a body names.
+/// Reads the founding that a body names.
 ///
 /// # Errors
-/// - `BadBody` where it isn't an object of exactly a founding's members, with three founders;
-/// - else `BadName` where a code or name in it doesn't read;
-/// - that memory ran out, at any body but an empty one.
+/// - `BadBody` if the body isn't an object of exactly a founding's members, with three founders;
+/// - otherwise `BadName` if a code or name in it isn't allowed;
+/// - out of memory, for any body except an empty one.
 #[tactic(auto, using(crate::proofs::BodyLemmas::of_body), unfolding(crate::specs::Bodies::body_named))]
 pub fn founding_of(alloc: Global, body: &[u8]) -> Result<Founding, BodyFault>
     ensures read { IfOk result (λ founding. body_named founding_named body.now ≡ Ok founding) }
@@ -79,7 +80,7 @@ pub fn founding_of(alloc: Global, body: &[u8]) -> Result<Founding, BodyFault>
     }
 }
 
-// The command that JSON names, by what is posted.
+// The command that JSON names, for the given kind of POST.
 fn posted_command(alloc: Global, post: Post, value: &Value) -> Result<Command, BodyFault>
     ensures read { IfOk result (λ command. post_named post (view value.now) ≡ Ok command) }
     ensures fault { IfErr result (FaultyInTurn (post_named post (view value.now))) }

@@ -1,4 +1,4 @@
-//! The body of a form, and of its fields, whose kinds decide which members they have.
+//! The body of a form and of its fields, whose kinds decide which members they have.
 ghost use Rattle.std.specs.Prelude.{◌≡◌, Ok, IfOk, IfErr, OnErr, IsSome, codes, find, ◌∷◌, [], false};
 ghost use Rattle.std.specs.List.{list_all};
 ghost use Rattle.std.specs.Option.{option_map_or, unwrap_or};
@@ -171,7 +171,7 @@ fn is_form_body(value: &Value) -> bool
     has_members(value, &FORM) && has_fields(value)
 }
 
-/// What the body of a form has lists of.
+/// The group of the lists in the body of a form.
 pub struct OfForm;
 
 impl Element<OfForm> for Name {
@@ -287,7 +287,7 @@ fn form_made(fields: Vec<Field>, approval: bool) -> Result<Form, BodyRefusal>
     }
 }
 
-// Whether approval is wanted, where that is said.
+// Whether approval is required; `false` if the body doesn't say.
 fn approval(value: &Value) -> bool
     ensures { result ≡ unwrap_or (at as_bool (codes "approval") (view value.now)) false }
 {
@@ -308,10 +308,10 @@ fn form_read(alloc: Global, value: &Value) -> Result<Command, BodyFault>
     Ok(Command::In(SessionCommand::OnRecord(RecordCommand::MakeForm { code, form })))
 }
 
-/// A form is made, or its next version.
+/// Reads the command that makes a form, or its next version.
 ///
 /// # Errors
-/// The body's refusal, or memory ran out.
+/// The body is refused, or memory ran out.
 #[tactic(auto, using(lab_wire_members::proofs::ReadingLemmas::in_turn), unfolding(crate::specs::Forms::form_named))]
 pub fn form(alloc: Global, value: &Value) -> Result<Command, BodyFault>
     ensures read { IfOk result (λ command. form_named (view value.now) ≡ Ok command) }

@@ -42,7 +42,7 @@ fn founder(alloc: Global, value: &Value) -> Result<Founder, BodyFault>
     })
 }
 
-// The laboratory's name, behind its founders.
+// The laboratory's name, after its founders.
 fn founding_behind(
     alloc: Global,
     first: Founder,
@@ -71,7 +71,7 @@ fn founding_behind(
     }
 }
 
-// The three of them, then the laboratory's name.
+// The three founders, then the laboratory's name.
 #[tactic(auto, using(lab_wire_members::proofs::ReadingLemmas::in_turn))]
 fn founding_of_three(
     alloc: Global,
@@ -103,10 +103,10 @@ fn founding_by(alloc: Global, values: &[Value], value: &Value) -> Result<Foundin
     founding_of_three(alloc, first, second, third, value)
 }
 
-/// A laboratory is founded.
+/// Reads a founding.
 ///
 /// # Errors
-/// The body's refusal, or memory ran out.
+/// The body is refused, or memory ran out.
 #[tactic(auto, using(lab_wire_members::proofs::ReadingLemmas::in_turn), unfolding(crate::specs::Foundings::founding_named))]
 pub fn founding(alloc: Global, value: &Value) -> Result<Founding, BodyFault>
     ensures read { IfOk result (λ founding. founding_named (view value.now) ≡ Ok founding) }

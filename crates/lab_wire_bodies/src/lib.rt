@@ -1,5 +1,5 @@
-//! What the body of a request says: the command that it names, or the founding, read from JSON (RFC 8259)
-//! by a list of members. It knows no laboratory, no route and no head.
+//! What the body of a request says: the command or the founding that it names, read from JSON (RFC
+//! 8259) by a list of members. This crate knows no laboratories, routes or heads.
 #![tactic(auto)]
 
 mod accounts;

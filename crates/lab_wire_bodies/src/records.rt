@@ -39,10 +39,10 @@ const AMENDMENT: [Member; 3] = [
     must!("altered", List),
 ];
 
-/// A record is opened.
+/// Reads the command that opens a record.
 ///
 /// # Errors
-/// The body's refusal, or memory ran out.
+/// The body is refused, or memory ran out.
 #[tactic(auto, using(lab_wire_members::proofs::ReadingLemmas::in_turn), unfolding(crate::specs::Records::record_named))]
 pub fn record(alloc: Global, value: &Value) -> Result<Command, BodyFault>
     ensures read { IfOk result (λ command. record_named (view value.now) ≡ Ok command) }
@@ -56,7 +56,7 @@ pub fn record(alloc: Global, value: &Value) -> Result<Command, BodyFault>
     Ok(Command::In(SessionCommand::OnRecord(RecordCommand::OpenRecord { form, sample })))
 }
 
-/// What the bodies on records have lists of.
+/// The group of the lists in bodies about records.
 pub struct OfRecords;
 
 impl Element<OfRecords> for Item {
@@ -77,10 +77,10 @@ impl Element<OfRecords> for Item {
     }
 }
 
-/// A value is entered.
+/// Reads the command that enters a value.
 ///
 /// # Errors
-/// The body's refusal, or memory ran out.
+/// The body is refused, or memory ran out.
 #[tactic(auto, using(lab_wire_members::proofs::ReadingLemmas::in_turn), unfolding(crate::specs::Records::entry_named))]
 pub fn entry(alloc: Global, value: &Value) -> Result<Command, BodyFault>
     ensures read { IfOk result (λ command. entry_named (view value.now) ≡ Ok command) }
@@ -147,10 +147,10 @@ fn altered_items(alloc: Global, value: &Value) -> Result<Altered, BodyFault>
     }
 }
 
-/// A record is amended.
+/// Reads the command that amends a record.
 ///
 /// # Errors
-/// The body's refusal, or memory ran out.
+/// The body is refused, or memory ran out.
 #[tactic(auto, using(lab_wire_members::proofs::ReadingLemmas::in_turn), unfolding(crate::specs::Records::amendment_named))]
 pub fn amendment(alloc: Global, value: &Value) -> Result<Command, BodyFault>
     ensures read { IfOk result (λ command. amendment_named (view value.now) ≡ Ok command) }

@@ -126,7 +126,7 @@ fn signing(alloc: Global, value: &Value, meant: Meant) -> Result<Signing, BodyFa
     }
 }
 
-// Who signs, and as what, behind what is signed.
+// Who signs, and as what, after what is signed.
 #[tactic(auto, using(lab_wire_members::proofs::ReadingLemmas::in_turn))]
 fn signature_by(
     alloc: Global,
@@ -166,10 +166,10 @@ fn signature_read(alloc: Global, value: &Value) -> Result<Command, BodyFault>
     signature_by(alloc, value, number, version, digest, meant)
 }
 
-/// A version of a record is signed.
+/// Reads the command that signs a version of a record.
 ///
 /// # Errors
-/// The body's refusal, or memory ran out.
+/// The body is refused, or memory ran out.
 #[tactic(auto, using(lab_wire_members::proofs::ReadingLemmas::in_turn), unfolding(crate::specs::Signatures::signature_named))]
 pub fn signature(alloc: Global, value: &Value) -> Result<Command, BodyFault>
     ensures read { IfOk result (λ command. signature_named (view value.now) ≡ Ok command) }

@@ -1,5 +1,5 @@
-//! What is kept of an accepted head: where its words stand, and what it says of the body, so that the head is read once, and
-//! the request is found by it when its body has come.
+//! What is kept of an accepted head: where its words stand, and what it says about the body. So the
+//! head is read only once, and the request is found when its body has come.
 
 ghost use Rattle.std.specs.Prelude.{◌≡◌, ◌≤◌, IfOk, IfErr};
 ghost use Rattle.lab_wire_heads.specs.Accepted.{IsHeadAt, IsRequestAt, request_at};
@@ -22,18 +22,19 @@ pub struct AcceptedHead {
     pub method: Span,
     /// Where the target stands there.
     pub target: Span,
-    /// The token by which the request names its session, if it names one.
+    /// The token with which the request names its session, if it names one.
     pub token: Option<Token>,
-    /// How many bytes stand before the body, those that were passed over counted.
+    /// The number of bytes before the body, with the bytes that were skipped at the front.
     pub end: usize,
-    /// The body that is to come.
+    /// What the head says about the body.
     pub body: ExpectedBody,
 }
 
-/// Reads the head of a request, for who reads the request piece by piece, and returns what is kept of it. It takes no memory.
+/// Reads the head of a request for a caller that reads the request piece by piece, and returns what
+/// is kept of the head. Allocates no memory.
 ///
 /// # Errors
-/// Those of `request_parts` that come before `ShortBody`.
+/// The errors of `request_parts` that come before `ShortBody`.
 #[tactic(auto, unfolding(crate::specs::Lengths::head_refusal))]
 pub fn kept_head(bytes: &[u8]) -> Result<AcceptedHead, HeadRefusal>
     ensures accepted { IfOk result (IsHeadAt bytes.now) }
@@ -56,7 +57,8 @@ pub fn kept_head(bytes: &[u8]) -> Result<AcceptedHead, HeadRefusal>
 }
 
 impl AcceptedHead {
-    /// The parts of the request in these bytes, which begin with this head and end with its body.
+    /// Returns the parts of the request in these bytes, which begin with this head and end with its
+    /// body.
     pub fn parts_in<'b>(&self, bytes: &'b [u8]) -> RequestParts<'b>
         requires { IsRequestAt bytes.now self.now }
         ensures { parts_shown result ≡ request_at bytes.now self.now }

@@ -1,4 +1,4 @@
-//! The date that a reply bears.
+//! The date in a reply.
 
 ghost use Rattle.std.specs.Prelude.{◌≡◌};
 ghost use Rattle.httpdate.specs.Date.{date_text};
@@ -7,7 +7,7 @@ ghost use Rattle.lab_wire_heads.specs.Dates.{imf_fixdate};
 use httpdate::HttpDate;
 use lab_forms_texts::Moment;
 
-/// The date of a moment in the form that HTTP has for dates.
+/// Returns the date of a moment in the form that HTTP uses for dates.
 pub fn http_date(moment: Moment) -> HttpDate
     ensures { date_text result ≡ imf_fixdate moment }
 {

@@ -1,4 +1,4 @@
-//! The fields of a head by their names.
+//! Finds the fields of a head by their names.
 
 ghost use Rattle.std.specs.Prelude.{◌≡◌, length, take, All, count_by, map, option_map};
 ghost use Rattle.httparse.specs.Spans.{IsHeaderWithin};
@@ -52,7 +52,7 @@ fn find_value<'b>(text: &'b [u8], fields: &[HeaderSpan], name: &[u8]) -> Option<
     None
 }
 
-/// How many fields have the name, in any case.
+/// Returns how many fields have the name, in any case.
 pub(crate) fn count_named(head: &RequestHead<'_>, name: &[u8]) -> usize
     requires { AreWithin head.now }
     ensures { result ≡ count_named name.now (head_received head.now).head.fields }
@@ -60,7 +60,7 @@ pub(crate) fn count_named(head: &RequestHead<'_>, name: &[u8]) -> usize
     count_spans(head.text, spans_of(head), name)
 }
 
-/// The value of the first field of the name.
+/// Returns the value of the first field with the name.
 pub(crate) fn value_named<'b>(head: &RequestHead<'b>, name: &[u8]) -> Option<&'b [u8]>
     requires { AreWithin head.now }
     ensures { option_map (λ value. value.now) result

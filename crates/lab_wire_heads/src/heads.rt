@@ -8,20 +8,20 @@ use crate::refusals::HeadRefusal;
 use httparse::Status;
 use httparse::spans::{EMPTY_HEADER_SPAN, HeaderSpan, RequestSpans, Span, parse_request};
 
-/// How many bytes may come before the end of a head, those in front of it counted.
+/// How many bytes may come before the end of a head, with the bytes that were skipped at the front.
 pub const HEAD_LIMIT: usize = 8192;
 
 /// How many field lines a head may have.
 const FIELD_LIMIT: usize = 64;
 
-/// How many lines of a head have come, and whether its empty line has.
+/// The number of lines of a head that have come, and whether its empty line has come.
 #[derive(Drop)]
 struct HeadSize {
     lines: usize,
     has_end: bool,
 }
 
-/// The bytes from the request line on, and how many were passed over.
+/// The bytes from the request line on, and how many bytes were skipped before it.
 #[derive(Drop)]
 struct Text<'b> {
     front: usize,
@@ -43,11 +43,12 @@ pub struct RequestHead<'b> {
     pub minor_version: u8,
     /// The bytes in which the fields stand.
     pub text: &'b [u8],
-    /// Where they stand, in the first places.
+    /// Where the fields stand in these bytes; the first `field_count` places are used.
     pub fields: [HeaderSpan; FIELD_LIMIT],
-    /// How many they are.
+    /// The number of fields.
     pub field_count: usize,
-    /// How many bytes stand before what follows the head, those that were passed over counted.
+    /// The number of bytes before what follows the head, with the bytes that were skipped at the
+    /// front.
     pub end: usize,
 }
 
@@ -65,7 +66,7 @@ fn without_front(bytes: &[u8]) -> Text<'_>
     Text { front, text: rest }
 }
 
-// What is read of the bytes.
+// The part of the bytes that is read.
 #[tactic(auto, using(crate::proofs::ReadLemmas::take_within))]
 fn head_text(bytes: &[u8]) -> Text<'_>
     ensures front { result.front ≡ front_length (take head_limit bytes.now) }
@@ -118,7 +119,7 @@ fn is_over_limits(came: usize, text: &[u8]) -> bool
     (came >= HEAD_LIMIT && !size.has_end) || size.lines > 1 + FIELD_LIMIT
 }
 
-// The head at the front of the text, if its fields fit the room.
+// The head at the front of the text, if its fields fit into the room.
 fn parse_head(text: &[u8], headers: &mut [HeaderSpan]) -> Option<RequestSpans>
     ensures within { IfSome result (IsRequestWithin text.now headers.new) }
     ensures head { IfSome result (IsRequestOf text.now headers.new) }
@@ -150,17 +151,17 @@ fn host_count(text: &[u8], headers: &[HeaderSpan]) -> usize
     hosts
 }
 
-// HTTP/1.1 wants exactly one Host.
+// HTTP/1.1 requires exactly one Host.
 fn keeps_host_rule(minor_version: u8, hosts: usize) -> bool
     ensures { result ≡ (not (minor_version == 1) || (hosts == 1)) }
 {
     minor_version != 1 || hosts == 1
 }
 
-/// Reads the head of a request, once its limits, its grammar and its Host are found good.
+/// Reads the head of a request, and returns it if its limits, its grammar and its Host are good.
 ///
 /// # Errors
-/// Why the bytes are no request head.
+/// Why the bytes aren't a request head.
 pub fn read_head(bytes: &[u8]) -> Result<RequestHead<'_>, HeadRefusal>
     ensures good { IfOk result (λ read. good_head bytes.now ≡ Ok (head_received read)) }
     ensures within { IfOk result AreWithin }

@@ -34,7 +34,7 @@ fn has_expectation(text: &[u8], fields: &[HeaderSpan]) -> bool
     false
 }
 
-/// Whether the interim answer is due before the body of an accepted head.
+/// Returns whether the interim answer is due before the body of an accepted head.
 pub(crate) fn is_interim_due(head: &RequestHead<'_>) -> bool
     requires within { AreWithin head.now }
     requires accepted { head_refusal (head_received head.now).head ≡ None }

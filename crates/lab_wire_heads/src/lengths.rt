@@ -1,4 +1,4 @@
-//! How long a body is, and what a good head is refused for.
+//! The length of a body, and why a head whose grammar is good is refused.
 
 ghost use Rattle.std.specs.Prelude.{◌≡◌, ◌+◌, min, IsTrue, None};
 ghost use Rattle.std.specs.List.{list_all};
@@ -34,7 +34,7 @@ fn digit_of(byte: u8) -> usize
     usize::from(byte - b'0')
 }
 
-// The number that the digits write, or one above the limit where it is larger.
+// The number that the digits write, or the limit plus one if the number is larger than the limit.
 fn length_of(digits: &[u8]) -> usize
     requires { IsTrue (is_digits digits.now) }
     ensures { result ≡ min (digits_value 10 digits.now) (body_limit + 1) }
@@ -56,7 +56,7 @@ fn is_length_good(head: &RequestHead<'_>) -> bool
     }
 }
 
-// The length that is stated, or one above the limit where it is larger.
+// The length that the head states, or the limit plus one if it is larger than the limit.
 #[tactic(auto, unfolding(crate::specs::Lengths::body_length))]
 fn stated_length(head: &RequestHead<'_>) -> usize
     requires within { AreWithin head.now }
@@ -89,7 +89,7 @@ fn is_repeated(head: &RequestHead<'_>, name: &[u8]) -> bool
     count_named(head, name) > 1
 }
 
-/// What a good head is refused for: the first of the checks that holds.
+/// Returns why a head whose grammar is good is refused: the first check that finds a fault.
 #[tactic(auto, unfolding(crate::specs::Lengths::head_refusal))]
 pub(crate) fn head_refusal(head: &RequestHead<'_>) -> Option<HeadRefusal>
     requires { AreWithin head.now }
@@ -113,7 +113,7 @@ pub(crate) fn head_refusal(head: &RequestHead<'_>) -> Option<HeadRefusal>
     None
 }
 
-/// How many bytes the body of an accepted head has.
+/// Returns how many bytes the body of an accepted head has.
 #[tactic(auto, unfolding(crate::specs::Lengths::head_refusal))]
 pub(crate) fn body_length(head: &RequestHead<'_>) -> usize
     requires within { AreWithin head.now }

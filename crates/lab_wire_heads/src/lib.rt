@@ -1,6 +1,6 @@
-//! The messages of HTTP/1.1 (RFC 9110 and RFC 9112): of a request the head and its limits, the fields that
-//! are looked at, the token and the body; of a reply the date, the lines of its head, and how its
-//! bytes are sent.
+//! The messages of HTTP/1.1 (RFC 9110 and RFC 9112). Of a request: the head and its limits, the
+//! fields that are read, the token and the body. Of a reply: the date, the lines of its head, and
+//! how its bytes are sent.
 #![tactic(auto)]
 
 mod accepted;

@@ -8,8 +8,8 @@ use http::StatusCode;
 use lab_forms_texts::{Moment, OutOfMemory};
 use std::alloc::Global;
 
-/// A whole message: its status, the Date field where a moment is given, the type of its body, further field lines, each
-/// with its end, and its body.
+/// Returns a whole message: its status, the Date field if a moment is given, the type of its body,
+/// further field lines, each with its end, and its body.
 ///
 /// # Errors
 /// Memory ran out.
@@ -40,7 +40,7 @@ pub fn message(
     Ok(bytes)
 }
 
-// The Date field of a moment, where one is given.
+// The Date field of a moment, if a moment is given.
 fn date_line(alloc: Global, moment: Option<Moment>) -> Result<String, OutOfMemory>
     ensures { IfOk result (λ line. string_bytes line ≡ date_field moment) }
 {

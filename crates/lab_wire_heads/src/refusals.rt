@@ -1,4 +1,4 @@
-//! What bytes are refused for that are no request, and how reading them ends without one.
+//! Why bytes that aren't a request are refused, and how reading ends if no request is read.
 
 ghost use Rattle.std.specs.Prelude.{◌≡◌, Some};
 ghost use Rattle.lab_wire_heads.specs.Refusals.{head_entry, head_fault_number, head_fault_word};
@@ -9,18 +9,19 @@ use std::alloc::AllocError;
 use std::fmt;
 use thiserror::Error;
 
-/// Why bytes are no request.
+/// Why bytes aren't a request.
 #[derive(Clone, Copy, Debug, PartialEq, Eq)]
 pub enum HeadRefusal {
-    /// They begin with no whole request head, or with one without exactly one Host; or a field says what none may.
+    /// The bytes don't begin with a whole request head, or the head doesn't have exactly one Host,
+    /// or a field has a value that no field may have.
     BadHead,
-    /// The head is longer than it may be, or has too many lines.
+    /// The head is longer than the limit, or has too many lines.
     HeadTooLong,
     /// The body is in a transfer coding.
     TransferCoding,
-    /// The length of a posted body is wanted.
+    /// The head of a POST states no length for its body.
     LengthWanted,
-    /// The body is longer than it may be.
+    /// The body is longer than the limit.
     BodyTooLong,
     /// The body has not come whole.
     ShortBody,
@@ -41,7 +42,7 @@ impl RefusalKind for HeadRefusal {
     }
 }
 
-/// Why no request was read. Its text is its word.
+/// Why no request was read. A fault is printed as its word.
 #[derive(Clone, Copy, Debug, PartialEq, Eq, Error)]
 pub enum HeadFault {
     /// The bytes are refused.
@@ -50,7 +51,7 @@ pub enum HeadFault {
     Read,
     /// The writer of the interim answer failed, or took no byte.
     Write {
-        /// How many of its bytes went out before.
+        /// How many of its bytes were sent before.
         sent: usize,
     },
     /// Memory ran out.
@@ -58,7 +59,7 @@ pub enum HeadFault {
 }
 
 impl HeadFault {
-    /// The number by which it is known: none, where no reply can tell of it.
+    /// Returns the number of the fault, or `None` if no reply can report the fault.
     pub fn number(&self) -> Option<u32>
         ensures { result ≡ head_fault_number self.now }
     {
@@ -69,7 +70,7 @@ impl HeadFault {
         }
     }
 
-    /// The word by which it is known.
+    /// Returns the word of the fault.
     pub fn word(&self) -> &'static str
         ensures { result.now ≡ head_fault_word self.now }
     {

@@ -1,4 +1,4 @@
-//! Sending a reply: every byte goes out, or the fault says how many did.
+//! Sends a reply: every byte is sent, or the fault says how many were.
 
 ghost use Rattle.std.specs.Prelude.{◌≡◌, None, ◌<◌, length, take, OnOk, IfErr};
 ghost use Rattle.std.specs.Io.KnownBytes.{Appends};
@@ -8,22 +8,22 @@ use std::fmt;
 use std::io::Write;
 use thiserror::Error;
 
-/// A write failed, or took no byte, while a reply was being sent. Its text is its word.
+/// A write failed, or took no byte, while a reply was being sent. A fault is printed as its word.
 #[derive(Clone, Copy, Debug, Error, PartialEq, Eq)]
 pub struct WriteFault {
-    /// How many of the reply's bytes went out before.
+    /// How many of the reply's bytes were sent before.
     pub sent: usize,
 }
 
 impl WriteFault {
-    /// The fault's number: none, since no reply can tell of it.
+    /// Returns `None`: the fault has no number, because no reply can report it.
     pub fn number(&self) -> Option<u32>
         ensures { result ≡ None }
     {
         None
     }
 
-    /// The fault's word.
+    /// Returns the word of the fault.
     pub fn word(&self) -> &'static str
         ensures { result.now ≡ write_fault_word }
     {
@@ -42,7 +42,8 @@ impl fmt::Display for WriteFault {
     }
 }
 
-/// Writes all the bytes of a reply. The first write that fails or takes no byte is the fault.
+/// Writes all the bytes of a reply. Stops with a fault at the first write that fails or takes no
+/// byte.
 ///
 /// # Errors
 /// A write failed, or took no byte.

@@ -1,4 +1,4 @@
-//! The token by which a request names its session.
+//! The token with which a request names its session.
 
 ghost use Rattle.std.specs.Prelude.{◌≡◌, length, take, drop};
 ghost use Rattle.std.specs.Str.{str_eq_ignore_ascii_case};
@@ -9,7 +9,7 @@ use crate::fields::value_named;
 use crate::heads::RequestHead;
 use lab_seal_hashes::Token;
 
-/// The scheme, and one space.
+/// The authentication scheme, and one space.
 const SCHEME: &[u8] = b"LabSession ";
 
 #[tactic(auto, using(crate::proofs::ReadLemmas::take_within))]
@@ -26,7 +26,7 @@ fn behind_scheme(value: &[u8]) -> &[u8]
     &value[value.len().min(SCHEME.len())..]
 }
 
-// The token that a value names: the scheme, in any case, and 64 lower hexadecimal digits.
+// The token that a field's value names: the scheme, in any case, and 64 lower hexadecimal digits.
 #[tactic(auto, unfolding(crate::specs::Tokens::token_of))]
 fn token_of(value: &[u8]) -> Option<Token>
     ensures { result ≡ token_of value.now }
@@ -37,7 +37,7 @@ fn token_of(value: &[u8]) -> Option<Token>
     Token::from_digits(behind_scheme(value))
 }
 
-/// The token that a head names.
+/// Returns the token that a head names.
 #[tactic(auto, unfolding(crate::specs::Tokens::token_in))]
 pub(crate) fn token_in(head: &RequestHead<'_>) -> Option<Token>
     requires { AreWithin head.now }

@@ -1,5 +1,5 @@
-//! JSON values as bodies have them (RFC 8259): the members of an object, what stands at their names, each element of a list,
-//! and what a body is refused for. It knows no command.
+//! JSON values as they stand in bodies (RFC 8259): the members of an object, the values at their
+//! names, each element of a list, and why a body is refused. This crate knows no commands.
 #![tactic(auto)]
 
 mod members;

@@ -1,4 +1,5 @@
-//! The members of a body's objects: which there may be, which must, and what a value says.
+//! The members of a body's objects: which members are allowed, which are required, and what a value
+//! says.
 ghost use Rattle.std.specs.Prelude.{◌≡◌, ◌∷◌, List, map, count_by, is_some, option_map, option_and_then, find, [], false};
 ghost use Rattle.std.specs.List.{list_all};
 ghost use Rattle.std.specs.Option.{option_map_or};
@@ -34,11 +35,11 @@ pub enum MemberKind {
     Roles,
     /// A list of strings.
     Texts,
-    /// A list. What its elements are is told beside it.
+    /// A list. The kind of its elements is stated beside it.
     List,
 }
 
-/// What a body may have at a name, and whether it must.
+/// What a body may have at a name, and whether it must have it.
 #[derive(Clone, Copy, Drop)]
 pub struct Member {
     pub name: &'static str,
@@ -46,7 +47,7 @@ pub struct Member {
     pub is_required: bool,
 }
 
-/// A member that must be there, as `must!("code", Text)`.
+/// A required member, as `must!("code", Text)`.
 #[macro_export]
 macro_rules! must {
     ($name:literal, $kind:ident) => {
@@ -58,7 +59,7 @@ macro_rules! must {
     };
 }
 
-/// A member that need not be there, as `may!("reason", Text)`.
+/// An optional member, as `may!("reason", Text)`.
 #[macro_export]
 macro_rules! may {
     ($name:literal, $kind:ident) => {
@@ -70,7 +71,7 @@ macro_rules! may {
     };
 }
 
-/// A whole number.
+/// Returns the whole number that a value is.
 pub fn whole_in(value: &Value) -> Option<u32>
     ensures { result ≡ whole_in (view value.now) }
 {
@@ -91,21 +92,21 @@ fn ordinal_of(number: u64) -> Option<Ordinal>
     Ordinal::new(number as u32)
 }
 
-/// A number from 1 to 1,000,000,000.
+/// Returns the number from 1 to 1,000,000,000 that a value is.
 pub fn ordinal_in(value: &Value) -> Option<Ordinal>
     ensures { result ≡ ordinal_in (view value.now) }
 {
     ordinal_of(value.as_u64()?)
 }
 
-/// A digest, by its digits.
+/// Returns the digest that a value is, from its digits.
 pub fn digest_in(value: &Value) -> Option<Digest>
     ensures { result ≡ digest_in (view value.now) }
 {
     Digest::from_digits(value.as_str()?.as_bytes())
 }
 
-/// The elements of a list.
+/// Returns the elements of the list that a value is.
 pub fn list_in(value: &Value) -> Option<&[Value]>
     ensures { option_map (λ list. map view list.now) result ≡ list_in (view value.now) }
 {
@@ -178,7 +179,7 @@ fn roles_of(values: &[Value]) -> Option<Roles>
     Some(roles)
 }
 
-/// Roles, by a list of their words.
+/// Returns the roles that a value is, from the list of their words.
 pub fn roles_in(value: &Value) -> Option<Roles>
     ensures { result ≡ roles_in (view value.now) }
 {
@@ -252,7 +253,7 @@ fn count_there(value: &Value, rules: &[Member]) -> usize
     rules.iter().filter(|rule| is_there(value, rule)).count()
 }
 
-/// Whether a value is an object of exactly these members, whose names differ.
+/// Returns whether a value is an object of exactly these members, whose names differ.
 pub fn has_members(value: &Value, rules: &[Member]) -> bool
     ensures { result ≡ has_members (map rule_shown rules.now) (view value.now) }
 {
@@ -269,21 +270,21 @@ fn all_have(values: &[Value], rules: &[Member]) -> bool
     values.iter().all(|value| has_members(value, rules))
 }
 
-/// The text at a name.
+/// Returns the text at a name.
 pub fn str_at<'v>(value: &'v Value, name: &str) -> Option<&'v str>
     ensures { option_map (λ text. text.now) result ≡ at as_str name.now (view value.now) }
 {
     value.get(name)?.as_str()
 }
 
-/// What is true or false at a name.
+/// Returns the `true` or `false` at a name.
 pub fn flag_at(value: &Value, name: &str) -> Option<bool>
     ensures { result ≡ at as_bool name.now (view value.now) }
 {
     value.get(name)?.as_bool()
 }
 
-/// The elements of the list at a name.
+/// Returns the elements of the list at a name.
 pub fn elements_at<'v>(value: &'v Value, name: &str) -> Option<&'v [Value]>
     ensures { option_map (λ list. map view list.now) result
         ≡ elements_at name.now (view value.now) }
@@ -291,7 +292,7 @@ pub fn elements_at<'v>(value: &'v Value, name: &str) -> Option<&'v [Value]>
     list_in(value.get(name)?)
 }
 
-/// Whether there is a list at a name, of objects of exactly these members.
+/// Returns whether a list stands at a name, and its elements are objects of exactly these members.
 #[tactic(auto, using(crate::proofs::MemberLemmas::all_of_views))]
 pub fn each_has(value: &Value, name: &str, rules: &[Member]) -> bool
     ensures { result ≡ each_has (map rule_shown rules.now)

@@ -1,4 +1,4 @@
-//! What more than one command has: texts as they were typed, and the elements of a list, each read.
+//! What several commands share: texts as they were typed, and lists of which each element is read.
 ghost use Rattle.std.specs.Prelude.{◌≡◌, Ok, map, IfOk, IfErr};
 ghost use Rattle.serde_json.specs.Data.{Data};
 ghost use Rattle.serde_json.specs.View.{view};
@@ -11,10 +11,10 @@ use lab_forms_texts::Typed;
 use serde_json::Value;
 use std::alloc::Global;
 
-/// The text at a name, as it was typed.
+/// Reads the text at a name, as it was typed.
 ///
 /// # Errors
-/// The body's refusal, or memory ran out.
+/// The body is refused, or memory ran out.
 pub fn typed_at(alloc: Global, value: &Value, name: &str) -> Result<Typed, BodyFault>
     ensures read { IfOk result (λ typed. text_at name.now (view value.now) ≡ Ok typed) }
     ensures fault { IfErr result (Faulty (text_at name.now (view value.now))) }
@@ -25,9 +25,9 @@ pub fn typed_at(alloc: Global, value: &Value, name: &str) -> Result<Typed, BodyF
     }
 }
 
-/// What the bodies of the group `G` have a list of.
+/// An element of the lists in the bodies of the group `G`.
 pub trait Element<G>: Sized + Drop {
-    /// What a value says.
+    /// The reading of a value.
     ghost says: { Data → Reading Self };
 
     /// Reads a value.
@@ -39,7 +39,7 @@ pub trait Element<G>: Sized + Drop {
 /// Reads each value of a list.
 ///
 /// # Errors
-/// The body's refusal, or memory ran out.
+/// The body is refused, or memory ran out.
 pub fn each_of<G, T: Element<G>>(alloc: Global, values: &[Value]) -> Result<Vec<T>, BodyFault>
     ensures read { IfOk result (λ list. each_read T.says (map view values.now) ≡ Ok list.items) }
     ensures fault { IfErr result (FaultyInTurn (each_read T.says (map view values.now))) }

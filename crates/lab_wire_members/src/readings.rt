@@ -1,5 +1,6 @@
-//! What is read at the names of a body whose shape was seen: each reading answers what stands there, or why it doesn't
-//! read. Text is copied once it is known to read, so no refusal is told as out of memory.
+//! Readings of a body whose shape is already known: each returns what stands at a name, or why it
+//! is refused. A text is copied only once it is known to be good, so no refusal is reported as out
+//! of memory.
 ghost use Rattle.std.specs.Prelude.{◌≡◌, Ok, IfOk, IfErr, OnErr, IsSome, string_bytes};
 ghost use Rattle.serde_json.specs.Find.{as_str};
 ghost use Rattle.serde_json.specs.View.{view};
@@ -14,10 +15,10 @@ use lab_seal_hashes::Digest;
 use serde_json::Value;
 use std::alloc::Global;
 
-/// A text that a rule admits.
+/// Copies a text that a rule admits.
 ///
 /// # Errors
-/// The body's refusal, or memory ran out.
+/// The body is refused, or memory ran out.
 pub fn admitted_text<R: Rule>(alloc: Global, text: &str) -> Result<Text<R>, BodyFault>
     ensures read { IfOk result (λ named. admitted R.admits text.now ≡ Ok named) }
     ensures fault { IfErr result (Faulty (admitted R.admits text.now)) }
@@ -29,10 +30,10 @@ pub fn admitted_text<R: Rule>(alloc: Global, text: &str) -> Result<Text<R>, Body
     }
 }
 
-/// The text at a name, which a rule admits.
+/// Reads the text at a name, which a rule must admit.
 ///
 /// # Errors
-/// The body's refusal, or memory ran out.
+/// The body is refused, or memory ran out.
 pub fn named_at<R: Rule>(alloc: Global, value: &Value, name: &str) -> Result<Text<R>, BodyFault>
     ensures read { IfOk result (λ named. named_at R.admits name.now (view value.now) ≡ Ok named) }
     ensures fault { IfErr result (Faulty (named_at R.admits name.now (view value.now))) }
@@ -43,10 +44,11 @@ pub fn named_at<R: Rule>(alloc: Global, value: &Value, name: &str) -> Result<Tex
     }
 }
 
-/// The text at an optional name, which a rule admits. `None` where the name is absent: then nothing is made.
+/// Reads the text at an optional name, which a rule must admit. Returns `None` if the name is
+/// absent, and then allocates nothing.
 ///
 /// # Errors
-/// The body's refusal, or memory ran out.
+/// The body is refused, or memory ran out.
 pub fn named_if_at<R: Rule>(
     alloc: Global,
     value: &Value,
@@ -66,10 +68,10 @@ pub fn named_if_at<R: Rule>(
     }
 }
 
-/// The text at a name, whatever it says.
+/// Reads the text at a name, whatever it is.
 ///
 /// # Errors
-/// The body's refusal, or memory ran out.
+/// The body is refused, or memory ran out.
 pub fn text_at(alloc: Global, value: &Value, name: &str) -> Result<String, BodyFault>
     ensures read { IfOk result
         (λ text. text_at name.now (view value.now) ≡ Ok (string_bytes text)) }
@@ -84,7 +86,7 @@ pub fn text_at(alloc: Global, value: &Value, name: &str) -> Result<String, BodyF
     }
 }
 
-/// What has to be there.
+/// Returns what was found, which must be there.
 ///
 /// # Errors
 /// Why the body is refused.
@@ -97,28 +99,28 @@ pub fn wanted_member<T: Drop>(found: Option<T>) -> Result<T, BodyRefusal>
     }
 }
 
-/// The number at a name.
+/// Returns the number at a name.
 pub fn ordinal_at(value: &Value, name: &str) -> Option<Ordinal>
     ensures { result ≡ at ordinal_in name.now (view value.now) }
 {
     members::ordinal_in(value.get(name)?)
 }
 
-/// The whole number at a name.
+/// Returns the whole number at a name.
 pub fn whole_at(value: &Value, name: &str) -> Option<u32>
     ensures { result ≡ at whole_in name.now (view value.now) }
 {
     members::whole_in(value.get(name)?)
 }
 
-/// The digest at a name.
+/// Returns the digest at a name.
 pub fn digest_at(value: &Value, name: &str) -> Option<Digest>
     ensures { result ≡ at digest_in name.now (view value.now) }
 {
     members::digest_in(value.get(name)?)
 }
 
-/// The roles at a name.
+/// Returns the roles at a name.
 pub fn roles_at(value: &Value, name: &str) -> Option<Roles>
     ensures { result ≡ at roles_in name.now (view value.now) }
 {

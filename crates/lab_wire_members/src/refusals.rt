@@ -1,4 +1,5 @@
-//! What a body is refused for. Each refusal has a number and a word, by which the interface tells it.
+//! Why a body is refused. Each refusal has a number and a word, with which the interface reports
+//! it.
 ghost use Rattle.lab_wire_members.specs.Refusals.{body_entry};
 
 use lab_forms::FormRefusal;
@@ -7,11 +8,11 @@ use lab_forms_texts::{Fault, RefusalKind};
 /// Why a body names nothing of its kind.
 #[derive(Clone, Copy, Debug, PartialEq, Eq)]
 pub enum BodyRefusal {
-    /// It isn't of the form that is asked for.
+    /// The body doesn't have the form that the command needs.
     BadBody,
-    /// A name in it doesn't read.
+    /// A name in the body isn't allowed.
     BadName,
-    /// Its fields make no form, or two of its values have one key.
+    /// The fields make no form, or two of the values have the same key.
     Form(FormRefusal),
 }
 

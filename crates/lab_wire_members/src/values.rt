@@ -1,4 +1,4 @@
-//! The JSON value that a body is, from its bytes.
+//! Reads the JSON value of a body from its bytes.
 ghost use Rattle.std.specs.Prelude.{◌≡◌, Some, IfOk, IfErr};
 ghost use Rattle.serde_json.specs.View.{view};
 ghost use Rattle.lab_wire_members.specs.Values.{json_of, JsonFaultFits};
@@ -7,10 +7,10 @@ use crate::refusals::{BodyFault, BodyRefusal};
 use serde_json::Value;
 use std::alloc::Global;
 
-/// The JSON value that a body is. Out of memory comes only where a byte came.
+/// Reads the JSON value of a body. Memory runs out only if the body has at least one byte.
 ///
 /// # Errors
-/// The body's refusal, or memory ran out.
+/// The body is refused, or memory ran out.
 pub fn value_of(alloc: Global, body: &[u8]) -> Result<Value, BodyFault>
     ensures read { IfOk result (λ value. json_of body.now ≡ Some (view value)) }
     ensures fault { IfErr result (JsonFaultFits body.now) }

@@ -1,4 +1,4 @@
-//! Asking a source for bytes, and not forever.
+//! Asks a source for bytes, but only a limited number of times.
 
 ghost use Rattle.std.specs.Prelude.{◌<◌, ◌≤◌, ◌+◌, OnOk, IfOk};
 ghost use Rattle.std.specs.Io.{ReadsAtMost};
@@ -9,7 +9,8 @@ use lab_forms_asks::ByteSource;
 use lab_wire_heads::HeadFault;
 use std::io::ErrorKind;
 
-/// How often a source is asked for one request before it counts as failed. A request has at most 73,728 bytes.
+/// How often a source is asked for one request before it counts as failed. A request has at most
+/// 73,728 bytes.
 pub(crate) const MOST_ASKS: u32 = 80_000;
 
 /// The source failed, or was asked too often.
@@ -27,10 +28,10 @@ impl From<ReadFault> for HeadFault {
     }
 }
 
-/// Asks for bytes, while asks are left. Where a signal interrupted the source, it is asked again.
+/// Asks for bytes while asks are left. Asks again if a signal interrupted the source.
 ///
 /// # Errors
-/// The source failed, or no ask is left.
+/// The source failed, or no asks are left.
 pub(crate) fn read_some<R: ByteSource>(
     reader: &mut R,
     asks_left: &mut u32,
@@ -40,7 +41,8 @@ pub(crate) fn read_some<R: ByteSource>(
     ensures bytes { ReadConsumes (R.remaining reader.old) (R.remaining reader.new)
         result buffer.new }
 
-    // Each answer costs an ask, so with none left there is a fault; and no ask is given back.
+    // Each answer of the source costs an ask, so with no asks left there is a fault; and no ask is
+    // given back.
     ensures asked { OnOk result (asks_left.new < asks_left.old) }
     ensures asks { R.asks reader.new + asks_left.new ≤ R.asks reader.old + asks_left.old }
 {
@@ -55,10 +57,10 @@ pub(crate) fn read_some<R: ByteSource>(
     Err(ReadFault)
 }
 
-/// Takes the next byte, and none at the end.
+/// Returns the next byte, or `None` at the end.
 ///
 /// # Errors
-/// The source failed, or no ask is left.
+/// The source failed, or no asks are left.
 pub(crate) fn next_byte<R: ByteSource>(
     reader: &mut R,
     asks_left: &mut u32,

@@ -1,4 +1,4 @@
-//! Reading the body behind a head, and no byte behind it.
+//! Reads the body after a head, and no byte after the body.
 
 ghost use Rattle.std.specs.Prelude.{◌≡◌, ◌<◌, ◌≤◌, ◌+◌, length, take, IfOk, IfErr};
 ghost use Rattle.std.specs.Io.KnownBytes.{IsAtEnd};
@@ -15,7 +15,8 @@ use lab_forms_texts::Series;
 use lab_wire_heads::{AcceptedHead, HeadFault, HeadRefusal};
 use std::alloc::Global;
 
-// Reads from that place on until the bytes are full or the reader ends. It answers up to where they came.
+// Reads from that place on until the bytes are full or the reader ends. Returns the place up to
+// which bytes came.
 fn fill<R: ByteSource>(
     reader: &mut R,
     asks_left: &mut u32,
@@ -40,10 +41,10 @@ fn fill<R: ByteSource>(
     Ok(end)
 }
 
-/// Reads the body behind the head, and returns the request. `kept` is what is kept of that head.
+/// Reads the body after the head, and returns the request. `kept` is what is kept of that head.
 ///
 /// # Errors
-/// The reader ended before (`ShortBody`), failed or was asked too often, or memory ran out.
+/// The reader ended too early (`ShortBody`), failed or was asked too often, or memory ran out.
 pub(crate) fn read_body<R: ByteSource>(
     alloc: Global,
     reader: &mut R,

@@ -1,4 +1,4 @@
-//! Reading the bytes of a head, and none behind it.
+//! Reads the bytes of a head, and no byte after it.
 
 ghost use Rattle.std.specs.Prelude.{◌≡◌, ◌≤◌, ◌+◌, length, take, IfOk, IfSome};
 ghost use Rattle.std.specs.Io.KnownBytes.{Consumes};
@@ -9,8 +9,9 @@ use crate::asks::{ReadFault, next_byte};
 use crate::stages::HeadStage;
 use lab_forms_asks::ByteSource;
 
-/// Reads the bytes of a head into the room, one at a time, so that those behind it are left to the reader: to the end of
-/// the head, or else to the limit or to the last byte. It answers how many they are.
+/// Reads the bytes of a head into the room, one at a time, so that the bytes after the head stay in
+/// the reader. Stops at the end of the head, or at the limit, or at the last byte. Returns how many
+/// bytes were read.
 ///
 /// # Errors
 /// The source failed, or was asked too often.

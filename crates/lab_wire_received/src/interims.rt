@@ -1,4 +1,4 @@
-//! The interim answer to a client that waits with its body.
+//! The interim answer to a client that waits before it sends its body.
 
 ghost use Rattle.std.specs.Prelude.{◌<◌, length, take, OnOk, IfErr};
 ghost use Rattle.std.specs.Io.KnownBytes.{Appends};
@@ -10,7 +10,7 @@ use std::io::Write;
 /// The interim answer (RFC 9110, section 15.2.1).
 const INTERIM_LINES: &[u8] = b"HTTP/1.1 100 Continue\r\n\r\n";
 
-/// Writes the interim answer where it is due, and else nothing.
+/// Writes the interim answer if it is due; otherwise writes nothing.
 ///
 /// # Errors
 /// A write failed, or took no byte.

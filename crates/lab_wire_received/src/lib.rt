@@ -1,5 +1,6 @@
-//! Reading a request of HTTP/1.1 from a reader, piece by piece, and the interim answer to a client that waits with its
-//! body (RFC 9110, section 10.1.1; RFC 9112, sections 2 and 6).
+//! Reads a request of HTTP/1.1 from a reader, piece by piece, and writes the interim answer to a
+//! client that waits before it sends its body (RFC 9110, section 10.1.1; RFC 9112, sections 2 and
+//! 6).
 #![tactic(auto)]
 
 mod asks;

@@ -1,4 +1,5 @@
-//! A request that was received: its bytes, and what is kept of its head, so that the head isn't read again.
+//! A request that was received: its bytes, and what is kept of its head, so that the head isn't
+//! read again.
 
 ghost use Rattle.std.specs.Prelude.{◌≡◌, Ok};
 ghost use Rattle.lab_wire_heads.specs.Accepted.{IsRequestAt};
@@ -27,7 +28,7 @@ impl Model for Received {
 }
 
 impl Received {
-    /// The request of these bytes, with what is kept of its head.
+    /// Returns the request that consists of these bytes, with what is kept of its head.
     pub(crate) fn new(bytes: Series<u8>, head: AcceptedHead) -> Received
         requires { IsRequestAt bytes head }
         ensures { result ≡ bytes }
@@ -35,7 +36,7 @@ impl Received {
         Received { bytes, head }
     }
 
-    /// The parts of the request that are looked at; they borrow its bytes.
+    /// Returns the parts of the request that are read; they borrow its bytes.
     pub fn parts(&self) -> RequestParts<'_>
         ensures { request_in self.now ≡ Ok (parts_shown result) }
     {

@@ -1,4 +1,4 @@
-//! Reading one request from a reader: its head, the interim answer, its body.
+//! Reads one request from a reader: its head, then its body, with the interim answer between them.
 
 ghost use Rattle.std.specs.Prelude.{◌≤◌, ◌+◌, take, IfOk, IfSome};
 ghost use Rattle.std.specs.Io.KnownBytes.{Consumes};
@@ -17,23 +17,25 @@ use lab_wire_heads::{HEAD_LIMIT, HeadFault, kept_head};
 use std::alloc::Global;
 use std::io::Write;
 
-/// Reads one request, head and body. What follows the body is left to the reader. A client that waits
-/// with its body is sent the interim answer once its head is accepted; else nothing is written.
+/// Reads one request, head and body. What follows the body stays in the reader. Once the head is
+/// accepted, the interim answer is sent to a client that waits for it; otherwise nothing is
+/// written.
 ///
-/// The reader is asked for single bytes as far as the head goes, and at most 80,000 times in all.
+/// Asks the reader for single bytes up to the end of the head, and at most 80,000 times in all.
 ///
 /// # Errors
-/// - `Refused`, as `request_parts` has it: the reader's bytes begin with no request that may be read;
+/// - `Refused`, as `request_parts` returns it: the reader's bytes don't begin with a request that
+///   may be read;
 /// - `Read`: the reader failed, or was asked too often;
 /// - `Write`: the writer of the interim answer failed, or took no byte;
-/// - `Memory`: memory for the bytes ran out, once the head was accepted. Nothing behind the head
-///   was read.
+/// - `Memory`: memory for the bytes ran out after the head was accepted. Nothing after the head was
+///   read.
 pub fn read_request<R: ByteSource, W: Write>(
     alloc: Global,
     reader: &mut R,
     writer: &mut W,
 ) -> Result<Received, HeadFault>
-    // The answer is by the reader's bytes alone, however they came.
+    // The result depends only on the reader's bytes, not on the pieces in which they came.
     ensures exact { IfSome (R.remaining reader.old) (λ bytes. IsReception bytes result) }
     ensures rest { IfOk result (λ request.
         Consumes (R.remaining reader.old) (R.remaining reader.new) request) }
@@ -44,7 +46,7 @@ pub fn read_request<R: ByteSource, W: Write>(
         Consumes (R.remaining reader.old) (R.remaining reader.new)
         (take (head_stop bytes) bytes))) }
 
-    // Of any reader:
+    // For any reader:
     ensures whole { IfOk result IsWholeRequest }
     ensures asks { R.asks reader.new ≤ R.asks reader.old + most_asks }
 {

@@ -1,16 +1,17 @@
-//! How far a head has come, so that its end is seen at its last byte, and no byte is looked at twice.
+//! How much of a head has come, so that its end is seen at its last byte, and each byte is read
+//! only once.
 
 ghost use Rattle.std.specs.Prelude.{◌≡◌};
 ghost use Rattle.lab_wire_received.specs.Stages.{stage_after, has_ended};
 
-/// How far a head has come.
+/// How much of a head has come.
 #[derive(Clone, Copy, Debug, PartialEq, Eq)]
 pub(crate) enum HeadStage {
-    /// Nothing but CR and LF has come.
+    /// Only CR and LF have come.
     Front,
     /// A line begins.
     Empty,
-    /// The line so far is CR.
+    /// The line so far is only CR.
     Return,
     /// The line so far is something else.
     Line,
@@ -19,7 +20,7 @@ pub(crate) enum HeadStage {
 }
 
 impl HeadStage {
-    /// After one byte more.
+    /// Returns the stage after one more byte.
     pub(crate) fn after(self, byte: u8) -> HeadStage
         ensures { result ≡ stage_after self byte }
     {
@@ -33,7 +34,7 @@ impl HeadStage {
         }
     }
 
-    /// Whether the head has come whole.
+    /// Returns whether the whole head has come.
     pub(crate) fn has_ended(self) -> bool
         ensures { result ≡ has_ended self }
     {

@@ -12,7 +12,7 @@ use lab_records_kept::FormVersion;
 use serde_json::{Map, Value};
 use std::alloc::Global;
 
-/// A version of a form that was made.
+/// Returns the reply about a form's version that was made.
 ///
 /// # Errors
 /// Memory ran out.
@@ -25,7 +25,7 @@ pub fn form_made_value(alloc: Global, code: &Key, version: Ordinal) -> Result<Va
     )
 }
 
-/// A version of a form.
+/// Returns a version of a form, as JSON.
 ///
 /// # Errors
 /// Memory ran out.
@@ -41,7 +41,7 @@ pub fn form_value(alloc: Global, form: &FormVersion) -> Result<Value, OutOfMemor
     object_with(alloc, &members, "fields", fields)
 }
 
-/// How a form tells its fields.
+/// The group of the things that a form lists.
 pub struct OfForms;
 
 impl Shown<OfForms> for Field {
@@ -56,7 +56,7 @@ impl Shown<OfForms> for Field {
     }
 }
 
-// What every field has.
+// The members that every field has.
 fn field_members(alloc: Global, field: &Field) -> Result<Map<String, Value>, OutOfMemory>
     ensures { IfOk result (λ members. members_view members.entries ≡ field_members field.now) }
 {
@@ -83,7 +83,7 @@ fn kind_word(kind: &Kind) -> &'static str
     }
 }
 
-// Adds what a kind has beside its word.
+// Adds the members that a kind has besides its word.
 fn put_kind(members: &mut Map<String, Value>, alloc: Global, kind: &Kind) -> Result<(), OutOfMemory>
     ensures { OnOk result (members_view members.new.entries
         ≡ with_kind kind.now (members_view members.old.entries)) }

@@ -1,5 +1,5 @@
-//! What a laboratory replies, as the text of a body: JSON (RFC 8259), or of a copy CSV (RFC 4180). It
-//! knows no HTTP.
+//! The text of the body of a laboratory's reply: JSON (RFC 8259), or CSV (RFC 4180) for a copy.
+//! This crate knows no HTTP.
 #![tactic(auto)]
 
 mod forms;

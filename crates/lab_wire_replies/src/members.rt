@@ -1,4 +1,4 @@
-//! The members of an object: lists of names and of what they tell.
+//! The members of an object: lists of names and values.
 ghost use Rattle.std.specs.Prelude.{◌≡◌, IfOk, OnOk, map};
 ghost use Rattle.serde_json.specs.Data.{object, string, boolean, put as with_member};
 ghost use Rattle.serde_json.specs.View.{view, members_view};
@@ -11,7 +11,7 @@ use lab_seal_versions::State;
 use serde_json::{Map, Value};
 use std::alloc::Global;
 
-/// What a member tells.
+/// The value of a member.
 #[derive(Clone, Copy, Drop)]
 pub enum Told<'a> {
     /// A text.
@@ -20,7 +20,7 @@ pub enum Told<'a> {
     Number(u64),
     /// `true` or `false`.
     Flag(bool),
-    /// A moment, as it is printed.
+    /// A moment, in its printed form.
     Moment(Moment),
     /// Bytes, as their digits.
     Bytes([u8; 32]),
@@ -35,7 +35,7 @@ pub struct Member<'a> {
     told: Told<'a>,
 }
 
-/// A text.
+/// Returns a member whose value is a text.
 pub fn text<'a>(name: &'static str, text: &'a str) -> Member<'a>
     ensures { member_data result ≡ (name.now, string text.now) }
 {
@@ -45,7 +45,7 @@ pub fn text<'a>(name: &'static str, text: &'a str) -> Member<'a>
     }
 }
 
-/// A whole number.
+/// Returns a member whose value is a whole number.
 pub fn count<'a>(name: &'static str, number: u64) -> Member<'a>
     ensures { member_data result ≡ (name.now, whole number) }
 {
@@ -55,14 +55,14 @@ pub fn count<'a>(name: &'static str, number: u64) -> Member<'a>
     }
 }
 
-/// A number from 1 on.
+/// Returns a member whose value is a number from 1 on.
 pub fn ordinal<'a>(name: &'static str, ordinal: Ordinal) -> Member<'a>
     ensures { member_data result ≡ (name.now, whole ordinal) }
 {
     count(name, u64::from(ordinal.get()))
 }
 
-/// `true` or `false`.
+/// Returns a member whose value is `true` or `false`.
 pub fn flag<'a>(name: &'static str, flag: bool) -> Member<'a>
     ensures { member_data result ≡ (name.now, boolean flag) }
 {
@@ -72,7 +72,7 @@ pub fn flag<'a>(name: &'static str, flag: bool) -> Member<'a>
     }
 }
 
-/// A moment.
+/// Returns a member whose value is a moment.
 pub fn moment<'a>(name: &'static str, moment: Moment) -> Member<'a>
     ensures { member_data result ≡ (name.now, moment_data moment) }
 {
@@ -82,7 +82,7 @@ pub fn moment<'a>(name: &'static str, moment: Moment) -> Member<'a>
     }
 }
 
-/// The digits of bytes.
+/// Returns a member whose value is the digits of bytes.
 pub fn bytes<'a>(name: &'static str, bytes: [u8; 32]) -> Member<'a>
     ensures { member_data result ≡ (name.now, digits_data bytes) }
 {
@@ -92,7 +92,7 @@ pub fn bytes<'a>(name: &'static str, bytes: [u8; 32]) -> Member<'a>
     }
 }
 
-/// A text, or the empty one where there is none.
+/// Returns a member whose value is a text, or the empty text if none is given.
 pub fn text_if_any<'a, R: Rule>(name: &'static str, given: &'a Option<Text<R>>) -> Member<'a>
     ensures { member_data result ≡ (name.now, text_or_empty given.now) }
 {
@@ -102,7 +102,7 @@ pub fn text_if_any<'a, R: Rule>(name: &'static str, given: &'a Option<Text<R>>) 
     }
 }
 
-/// The word of a state, or null.
+/// Returns a member whose value is the word of a state, or null.
 pub fn state<'a>(name: &'static str, state: Option<State>) -> Member<'a>
     ensures { member_data result ≡ (name.now, state_data state) }
 {
@@ -112,7 +112,7 @@ pub fn state<'a>(name: &'static str, state: Option<State>) -> Member<'a>
     }
 }
 
-/// The number of a last version, or null.
+/// Returns a member whose value is the number of a last version, or null.
 pub fn current<'a>(name: &'static str, current: Option<Ordinal>) -> Member<'a>
     ensures { member_data result ≡ (name.now, current_data current) }
 {
@@ -131,7 +131,7 @@ fn nothing<'a>(name: &'static str) -> Member<'a>
     }
 }
 
-// What a member tells, as a value.
+// The JSON value of a member.
 fn told_value(alloc: Global, told: &Told) -> Result<Value, OutOfMemory>
     ensures { IfOk result (λ value. view value ≡ told_data told.now) }
 {
@@ -145,7 +145,7 @@ fn told_value(alloc: Global, told: &Told) -> Result<Value, OutOfMemory>
     }
 }
 
-/// Adds members to an object. The only error is out of memory, here and below.
+/// Adds members to an object. This function and those below fail only if memory runs out.
 ///
 /// # Errors
 /// Memory ran out.
@@ -163,7 +163,7 @@ pub fn put_all(
     Ok(())
 }
 
-/// An object of these members.
+/// Returns an object of these members.
 ///
 /// # Errors
 /// Memory ran out.

@@ -1,4 +1,4 @@
-//! What replies are made of: lists, moments, bytes and states.
+//! The parts of replies: lists, moments, bytes and states.
 ghost use Rattle.std.specs.Prelude.{◌≡◌, IfOk, OnOk, List, ℕ, map, string_bytes};
 ghost use Rattle.serde_json.specs.Data.{Data, string, put as with_member};
 ghost use Rattle.serde_json.specs.View.{view, members_view};
@@ -12,17 +12,17 @@ use lab_seal_versions::{Seal, State};
 use serde_json::{Map, Value};
 use std::alloc::Global;
 
-/// What a reply lists, as the group of replies `G` tells it.
+/// A thing that a reply lists, in the form of the group of replies `G`.
 pub trait Shown<G> {
-    /// Its data.
+    /// The JSON data of the thing.
     ghost data_of: { Self → Data };
 
-    /// It as a value. The only error is out of memory.
+    /// Returns the thing as a JSON value. Fails only if memory runs out.
     fn value(&self, alloc: Global) -> Result<Value, OutOfMemory>
         ensures { IfOk result (λ value. view value ≡ data_of self.now) };
 }
 
-/// What is listed, as values in its order. The only error is out of memory.
+/// Returns the things as a list of values, in their order. Fails only if memory runs out.
 ///
 /// # Errors
 /// Memory ran out.
@@ -36,7 +36,7 @@ pub fn list_of<G, T: Shown<G>>(alloc: Global, things: &[T]) -> Result<Vec<Value>
     Ok(list)
 }
 
-/// Any reply tells a text alike.
+/// The group of all replies: a text has the same form in each.
 pub struct AnyReply;
 
 impl<R: Rule> Shown<AnyReply> for Text<R> {
@@ -47,7 +47,7 @@ impl<R: Rule> Shown<AnyReply> for Text<R> {
     }
 }
 
-/// A text.
+/// Returns a text as a value.
 ///
 /// # Errors
 /// Memory ran out.
@@ -57,7 +57,7 @@ pub fn text_value(alloc: Global, text: &str) -> Result<Value, OutOfMemory>
     Ok(Value::try_from_str(alloc, text)?)
 }
 
-/// A moment as it is printed.
+/// Returns a moment in its printed form.
 ///
 /// # Errors
 /// Memory ran out.
@@ -70,7 +70,7 @@ pub fn moment_text(alloc: Global, moment: Moment) -> Result<String, OutOfMemory>
     Ok(String::from_utf8_lossy(alloc, &printed)?)
 }
 
-/// A half of a one-time word as its digits.
+/// Returns a half of a one-time word as its digits.
 ///
 /// # Errors
 /// Memory ran out.
@@ -80,7 +80,7 @@ pub fn half_text(alloc: Global, half: &Half) -> Result<String, OutOfMemory>
     Ok(String::from_utf8_lossy(alloc, &half.digits())?)
 }
 
-/// Adds a member to an object. The only error is out of memory.
+/// Adds a member to an object. Fails only if memory runs out.
 ///
 /// # Errors
 /// Memory ran out.
@@ -96,7 +96,7 @@ pub fn put(
     Ok(serde_json::put(members, alloc, name, value)?)
 }
 
-/// Adds a member that is a list. The only error is out of memory.
+/// Adds a member that is a list. Fails only if memory runs out.
 ///
 /// # Errors
 /// Memory ran out.
@@ -113,7 +113,7 @@ pub fn put_list(
     put(members, alloc, name, Value::from(list))
 }
 
-/// Adds a member that lists these, as values in their order. The only error is out of memory.
+/// Adds a member that lists these things as values, in their order. Fails only if memory runs out.
 ///
 /// # Errors
 /// Memory ran out.

@@ -15,7 +15,7 @@ use lab_seal_hashes::{Half, Token};
 use serde_json::Value;
 use std::alloc::Global;
 
-/// A session that was opened.
+/// Returns the reply about a session that was opened.
 ///
 /// # Errors
 /// Memory ran out.
@@ -37,7 +37,7 @@ pub fn opened_value(
     )
 }
 
-/// A session that was closed.
+/// Returns the reply about a session that was closed.
 ///
 /// # Errors
 /// Memory ran out.
@@ -47,7 +47,7 @@ pub fn closed_value(alloc: Global, session: Ordinal) -> Result<Value, OutOfMemor
     object_of(alloc, &[ordinal("session", session)])
 }
 
-/// A password that was changed.
+/// Returns the reply about a password that was changed.
 ///
 /// # Errors
 /// Memory ran out.
@@ -57,7 +57,7 @@ pub fn changed_value(alloc: Global, changed: Moment) -> Result<Value, OutOfMemor
     object_of(alloc, &[moment("changed", changed)])
 }
 
-/// A person who was enrolled, retired or unlocked.
+/// Returns the reply about a person who was enrolled, retired or unlocked.
 ///
 /// # Errors
 /// Memory ran out.
@@ -67,7 +67,7 @@ pub fn person_done_value(alloc: Global, code: &PersonCode) -> Result<Value, OutO
     object_of(alloc, &[text("code", code.as_str())])
 }
 
-/// A half of a one-time word.
+/// Returns the reply with a half of a one-time word.
 ///
 /// # Errors
 /// Memory ran out.
@@ -78,7 +78,7 @@ pub fn half_value(alloc: Global, half: &Half) -> Result<Value, OutOfMemory>
     object_of(alloc, &[text("half", half.as_str())])
 }
 
-/// How the replies of persons tell what they list.
+/// The group of the things that replies about persons list.
 pub struct OfPersons;
 
 impl Shown<OfPersons> for Role {
@@ -97,7 +97,7 @@ fn roles_list(alloc: Global, roles: &Roles) -> Result<Vec<Value>, OutOfMemory>
     list_of::<OfPersons, _>(alloc, &roles)
 }
 
-/// The roles that a person has from now on.
+/// Returns the reply with the roles that a person has from now on.
 ///
 /// # Errors
 /// Memory ran out.
@@ -129,7 +129,7 @@ impl Shown<OfPersons> for PersonLine {
     }
 }
 
-/// The persons.
+/// Returns the list of the persons, as JSON.
 ///
 /// # Errors
 /// Memory ran out.

@@ -18,10 +18,10 @@ use lab_seal_versions::{Amendment, Digest, EntryRow, Format, State};
 use serde_json::{Map, Value};
 use std::alloc::Global;
 
-/// How the replies of records tell what they list.
+/// The group of the things that replies about records list.
 pub struct OfRecords;
 
-/// A record that was opened.
+/// Returns the reply about a record that was opened.
 ///
 /// # Errors
 /// Memory ran out.
@@ -38,7 +38,7 @@ pub fn record_opened_value(
     )
 }
 
-/// A value that was entered.
+/// Returns the reply about a value that was entered.
 ///
 /// # Errors
 /// Memory ran out.
@@ -62,7 +62,7 @@ pub fn entered_value(
     )
 }
 
-/// A version that was opened by an amendment.
+/// Returns the reply about a version that an amendment opened.
 ///
 /// # Errors
 /// Memory ran out.
@@ -84,7 +84,7 @@ pub fn amended_value(
     )
 }
 
-/// A signature that was given.
+/// Returns the reply about a signature that was given.
 ///
 /// # Errors
 /// Memory ran out.
@@ -129,7 +129,7 @@ fn current_of(versions: &[VersionState]) -> Option<Ordinal>
     versions.last().map(|version| version.version)
 }
 
-/// A record.
+/// Returns a record, as JSON.
 ///
 /// # Errors
 /// Memory ran out.
@@ -187,7 +187,7 @@ impl Shown<OfRecords> for Signature {
     }
 }
 
-// Values, which are told without who entered them and when.
+// Values, listed without who entered them and when.
 fn values_list(alloc: Global, rows: &[EntryRow]) -> Result<Vec<Value>, OutOfMemory>
     ensures { IfOk result (λ list. map view list.items ≡ map value_data rows.now) }
 {
@@ -229,7 +229,7 @@ fn amendment_reason(amendment: &Option<Amendment>) -> &str
     }
 }
 
-/// A version of a record.
+/// Returns a version of a record, as JSON.
 ///
 /// # Errors
 /// Memory ran out.
@@ -320,7 +320,7 @@ impl Shown<OfRecords> for RecordState {
     }
 }
 
-/// Records.
+/// Returns a list of records, as JSON.
 ///
 /// # Errors
 /// Memory ran out.

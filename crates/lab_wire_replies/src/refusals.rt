@@ -11,7 +11,7 @@ use lab_records_rules::Refusal;
 use serde_json::Value;
 use std::alloc::Global;
 
-/// A refusal that tells its word and its number alone. The only error is out of memory.
+/// Returns a refusal with only its word and its number. Fails only if memory runs out.
 ///
 /// # Errors
 /// Memory ran out.
@@ -25,7 +25,7 @@ pub fn entry_value(alloc: Global, number: u32, word: &str) -> Result<Value, OutO
     )
 }
 
-/// A refusal, with what else it tells. The only error is out of memory.
+/// Returns a refusal, with its further members. Fails only if memory runs out.
 ///
 /// # Errors
 /// Memory ran out.

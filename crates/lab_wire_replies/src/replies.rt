@@ -1,4 +1,4 @@
-//! What the body of a reply tells, and its text: JSON, or of a copy its rows as CSV.
+//! What the body of a reply says, and its text: JSON, or the rows as CSV for a copy.
 ghost use Rattle.std.specs.Prelude.{◌≡◌, IfOk, true};
 ghost use Rattle.serde_json.specs.View.{view};
 ghost use Rattle.lab_copy_rows.specs.Csv.{csv_text};
@@ -19,7 +19,7 @@ use lab_records_machine::Reply;
 use serde_json::Value;
 use std::alloc::Global;
 
-/// What a body tells.
+/// What a body says.
 #[derive(Drop)]
 pub(crate) enum Body<'r> {
     /// JSON.
@@ -28,7 +28,7 @@ pub(crate) enum Body<'r> {
     Csv(&'r [CopyRow]),
 }
 
-/// The text of a reply's body. The only error is out of memory.
+/// Returns the text of a reply's body. Fails only if memory runs out.
 ///
 /// # Errors
 /// Memory ran out.
@@ -51,7 +51,7 @@ fn text_of(alloc: Global, body: &Body<'_>) -> Result<Vec<u8>, OutOfMemory>
     }
 }
 
-// The rows of a copy as CSV. Writing to memory fails only where there is none left.
+// The rows of a copy as CSV. Writing to memory fails only if memory runs out.
 fn copy_text(alloc: Global, rows: &[CopyRow]) -> Result<Vec<u8>, OutOfMemory>
     ensures { IfOk result (λ text. text.items ≡ csv_text rows.now) }
 {
@@ -62,7 +62,7 @@ fn copy_text(alloc: Global, rows: &[CopyRow]) -> Result<Vec<u8>, OutOfMemory>
     }
 }
 
-// What the body of a reply tells.
+// What the body of a reply says.
 fn body_of(alloc: Global, reply: &Reply) -> Result<Body<'_>, OutOfMemory>
     ensures { IfOk result (λ body. body_shown body ≡ body_of reply.now) }
 {
@@ -72,7 +72,7 @@ fn body_of(alloc: Global, reply: &Reply) -> Result<Body<'_>, OutOfMemory>
     }
 }
 
-// The value of a reply that is written in JSON. Only a copy isn't.
+// The JSON value of a reply. Every reply except a copy has one.
 fn json_of(alloc: Global, reply: &Reply) -> Result<Value, OutOfMemory>
     requires { is_json reply.now ≡ true }
     ensures { IfOk result (λ value. Json (view value) ≡ body_of reply.now) }

@@ -10,7 +10,7 @@ use lab_records_kept::TrailRow;
 use serde_json::Value;
 use std::alloc::Global;
 
-/// How the trail tells its rows.
+/// The group of the rows of the trail.
 pub struct OfTrails;
 
 impl Shown<OfTrails> for TrailRow {
@@ -32,7 +32,7 @@ impl Shown<OfTrails> for TrailRow {
     }
 }
 
-/// Rows of the trail.
+/// Returns rows of the trail, as JSON.
 ///
 /// # Errors
 /// Memory ran out.
