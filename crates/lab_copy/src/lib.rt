@@ -13,7 +13,13 @@ mod places;
 pub use checks::check_copy;
 pub use faults::CheckFault;
 pub use hands::{VersionAtHand, begin, enter, sign};
-pub use lab_copy_rows::{CopyOut, CopyOutFault, CopyRow, Counts, Flaw, OutOfMemory, write_copy};
+pub use lab_copy_rows::{
+    CopyLine, CopyOut, CopyOutFault, CopyRow, Counts, Digest, Edition, EndLine, EntryLine,
+    EntryRow, Flaw, Format, Key, LabCode, Line, Meaning, Moment, Name, Note, Ordinal, OutOfMemory,
+    PersonCode, RecordLine, Seal, SealParts, SignatureLine, State, Unit, VersionLine, WriteFailure,
+    write_copy,
+};
+pub use lab_forms_texts::{Fault, RefusalKind};
 pub use places::{
     are_same_counts, counts_with, is_first_line, is_first_version, lab_of, was_asked,
 };

@@ -13,6 +13,7 @@ pub use faults::{FormFault, FormRefusal};
 pub use forms::{Field, Form};
 pub use kinds::{Bound, Choices, Kind};
 pub use lab_forms_texts::{
-    Key, LabCode, Moment, MomentFault, Name, NameFault, Note, OutOfMemory, PersonCode, Tick, Unit,
+    Fault, Key, LabCode, Moment, MomentFault, Name, NameFault, Note, OutOfMemory, PersonCode,
+    RefusalKind, Rule, Text, Tick, Unit,
 };
 pub use values::Value;

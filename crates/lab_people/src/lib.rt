@@ -15,7 +15,8 @@ pub use account_laws::{
 pub use accounts::{Effect, PasswordChanged, change_password, enrol, retire, set_roles, unlock};
 pub use issues::{Issued, ask_issue, confirm_issue};
 pub use lab_forms_texts::{
-    Moment, MomentFault, Name, NameFault, Ordinal, OutOfMemory, PersonCode, Tick,
+    Fault, Moment, MomentFault, Name, NameFault, Ordinal, OutOfMemory, PersonCode, RefusalKind,
+    Tick,
 };
 pub use lab_people_access::{
     Ask, Closing, Failure, Opened, Password, PeopleFault, PeopleRefusal, Person, ROUNDS, Role,

@@ -8,7 +8,22 @@ mod decisions;
 
 pub use commands::done_of;
 pub use decisions::{command_is_formed, decide};
+pub use lab_forms_texts::{
+    Fault, Key, LabCode, Moment, Name, Note, Ordinal, OutOfMemory, PersonCode, RefusalKind, Series,
+    Tick, Unit,
+};
 pub use lab_records_commands::opening_done;
-pub use lab_records_kept::{Change, EntryRow, Lab, Need, Record, Signature, Slice, Version};
-pub use lab_records_machine::{Command, Instruction, Reply, SessionCommand, needs};
+pub use lab_records_kept::{
+    BadStore, Change, Counts, EntryRow, FormVersion, FormWanted, FoundRecord, Keeper, KeeperFault,
+    Lab, ListWanted, Need, Newborn, PlacingFault, Record, RecordWanted, Signature, Slice, TrailRow,
+    Version,
+};
+pub use lab_records_machine::{
+    AccountCommand, BirthRefusal, Command, Founder, Founding, Instruction, ReadingCommand,
+    RecordCommand, Reply, SessionCommand, needs,
+};
 pub use lab_records_outcomes::Outcome;
+pub use lab_records_rules::{
+    CommandFault, Item, PersonLine, RecordRead, RecordState, Refusal, Signing, VersionRead,
+    VersionState,
+};

@@ -8,6 +8,10 @@ pub mod parts;
 mod reading;
 
 pub use faults::{BadText, TextFault};
+pub use lab_forms_texts::{
+    Fault, Key, LabCode, Moment, MomentFault, Name, NameFault, Note, Ordinal, OutOfMemory,
+    PersonCode, RefusalKind, Unit,
+};
 pub use lab_seal_hashes::{
     Digest, Half, Token, Verifier, VerifierParts, digest, founder_salts, hmac, pbkdf2, salt,
 };

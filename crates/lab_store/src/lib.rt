@@ -14,6 +14,10 @@ mod tables;
 pub use applying::apply;
 pub use founding::found;
 pub use givers::OneVersionAtATime;
+pub use lab_forms_texts::{Fault, OutOfMemory, RefusalKind};
+pub use lab_records_kept::{
+    BadStore, Change, Keeper, KeeperFault, LabCode, Need, Newborn, PlacingFault, Series, Slice,
+};
 pub use lab_store_files::{FileFault, create, open};
 pub use store::Store;
 pub use tables::Tables;

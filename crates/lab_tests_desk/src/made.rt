@@ -1,7 +1,5 @@
 //! Moments, codes and desks that the tests are made of.
-use lab_desk::{Desk, LabCode, Tick};
-use lab_forms_texts::Moment;
-use lab_records_lists::Lists;
+use lab_desk::{Desk, LabCode, Lists, Moment, Tick};
 use std::process::Abort;
 
 pub(crate) fn tick(rt: &impl Abort, seconds: i64, first: u64) -> Tick {

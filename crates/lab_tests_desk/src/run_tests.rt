@@ -1,8 +1,6 @@
 //! A run of foundings and a request.
 use crate::run_texts::{ANSWERS, BODY, CARD};
-use lab_desk::{Desk, Event, LabCode, RunFault, Series, Tick};
-use lab_forms_texts::Moment;
-use lab_records_lists::Lists;
+use lab_desk::{Desk, Event, LabCode, Lists, Moment, RunFault, Series, Tick};
 use std::process::Abort;
 
 // What an event is made of: the code and the body of a founding, or the bytes of a call, which has

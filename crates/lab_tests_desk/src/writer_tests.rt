@@ -2,8 +2,7 @@
 use crate::made::{code, empty_desk, tick};
 use crate::streams::{Dripping, Filling};
 use crate::texts::{BODY, WAITING_CARD, WAITING_CARD_REPLY};
-use lab_desk::{Desk, ServeFault, Tick};
-use lab_records_lists::Lists;
+use lab_desk::{Desk, Lists, ServeFault, Tick};
 use std::process::Abort;
 
 fn desk_with_aqua<R: Abort + AllocGlobal>(rt: &R) -> Desk<Lists> {

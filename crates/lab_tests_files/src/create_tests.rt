@@ -1,6 +1,6 @@
 //! Where a file is made beside other tables, and what stays.
 use crate::helpers::{assert_shown, database, make};
-use lab_store_files::FileFault;
+use lab_store::FileFault;
 
 #[test]
 fn a_file_is_made_beside_a_table_of_another_name(rt: HostRuntime) {

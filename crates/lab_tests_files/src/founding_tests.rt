@@ -1,10 +1,8 @@
 //! A founding that is refused. Calls stand in functions without clauses, so that the proof of the test doesn't carry what a
 //! connection holds after each.
-use lab_forms_texts::{Moment, Rule, Text};
-use lab_people_access::{Password, Person, Roles};
-use lab_records_kept::{Newborn, PlacingFault};
-use lab_store::{Tables, found};
-use lab_store_files::{FileFault, create};
+use lab_forms::{Moment, Rule, Text};
+use lab_people::{Password, Person, Roles};
+use lab_store::{FileFault, Newborn, PlacingFault, Tables, create, found};
 use sqlite::{Connection, MemStore};
 use std::alloc::Global;
 use std::process::Abort;

@@ -1,5 +1,5 @@
 //! Calls without clauses, so that the proof of a test doesn't carry what a connection holds after each.
-use lab_store_files::{FileFault, create};
+use lab_store::{FileFault, create};
 use sqlite::{Connection, MemStore};
 use std::process::Abort;
 

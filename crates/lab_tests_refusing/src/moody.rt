@@ -1,7 +1,8 @@
 //! A keeper that refuses every second call.
-use lab_forms_texts::{LabCode, Series};
-use lab_records_kept::{BadStore, Change, Keeper, KeeperFault, Need, Newborn, PlacingFault, Slice};
-use lab_records_lists::Lists;
+use lab_desk::Lists;
+use lab_records::{
+    BadStore, Change, Keeper, KeeperFault, LabCode, Need, Newborn, PlacingFault, Series, Slice,
+};
 
 /// A list of laboratories that refuses every second call, for memory and for storage by turns, for
 /// as long as it is moody. It tells nothing of what it keeps, so that its calls are proved without

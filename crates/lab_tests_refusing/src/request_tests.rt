@@ -1,9 +1,7 @@
 //! What requests get of a keeper that refuses, and what they leave.
 use crate::Moody;
 use crate::request_texts::{BODY, MEMORY_REPLY, OPEN, OPEN_REPLY, STORAGE_REPLY};
-use lab_desk::{Desk, LabCode, Tick};
-use lab_forms_texts::Moment;
-use lab_records_lists::Lists;
+use lab_desk::{Desk, LabCode, Lists, Moment, Tick};
 use std::process::Abort;
 
 fn tick(rt: &impl Abort, seconds: i64) -> Tick {

@@ -1,9 +1,7 @@
 //! What foundings and requests get of a keeper that refuses, in a run and over connections.
 use crate::Moody;
 use crate::run_texts::{ANSWERS, BODY, CARD, CEDAR_CARD, NO_HEAD, OPEN, SERVED};
-use lab_desk::{Desk, Event, LabCode, RunFault, Series, ServeFault, Tick};
-use lab_forms_texts::Moment;
-use lab_records_lists::Lists;
+use lab_desk::{Desk, Event, LabCode, Lists, Moment, RunFault, Series, ServeFault, Tick};
 use std::process::Abort;
 
 // What an event is made of: the code and the body of a founding, or the bytes of a call, which has
