@@ -23,6 +23,11 @@ def shown(value, most=600):
     return f"{value!r:.{most}}"
 
 
+def with_bytes(show_bytes):
+    """How to show a value, of which bytes have a way of their own."""
+    return lambda value, most: show_bytes(value) if isinstance(value, bytes) else shown(value, most)
+
+
 def must_be(what, there, wanted, most=300, show=shown):
     """Stops a part where something is otherwise."""
     if there != wanted:
@@ -53,12 +58,13 @@ class Report:
         return bool(found) or self.say(True, what)
 
     def part(self, what, run, *given, faults=()):
-        """Runs a part. Prints that it is good, with what it returns, or the fault that it stopped at. Returns whether it is good."""
+        """Runs a part. Prints that it is good, with what it returns, or the fault that it stopped at. Returns whether it is good. Where it
+        has no name, what it returns says what it was."""
         try:
             told = run(*given)
         except (Differs, *FAULTS, *faults) as fault:
-            return self.say(False, f"{what}: {fault}")
-        return self.say(True, what if told is None else f"{what}: {told}")
+            return self.say(False, f"{what}: {fault}" if what else str(fault))
+        return self.say(True, ": ".join(str(one) for one in (what, told) if one not in ("", None)))
 
     def compare(self, what, there, wanted, most=600):
         """Notes one of many things, for which `whole` prints one line."""
