@@ -4,8 +4,8 @@ import re
 
 TOP = pathlib.Path(__file__).resolve().parent.parent
 KINDS = ("check", "tests", "edits")
-# A crate's line in tools/seconds, and a bound's.
-LINE = re.compile(r"(\w+) (\d+) (\d+) (\d+)$")
+# A crate's line in tools/seconds, and a bound's. What wasn't measured is a dash.
+LINE = re.compile(r"(\w+) (\d+) (\d+|-) (\d+|-)$")
 BOUND = re.compile(r"bound (\w+) (\d+)$")
 
 
@@ -25,10 +25,11 @@ class Costs:
     def __init__(self, top=TOP):
         self.path = pathlib.Path(top) / "tools/seconds"
         self.uses = crates_in((pathlib.Path(top) / "crates.txt").read_text(encoding="utf-8"))
-        self.seconds, self.bounds, self.unread = {}, {}, []
+        self.seconds, self.bounds, self.unread, self.unmeasured = {}, {}, [], set()
         for line in self.path.read_text(encoding="utf-8").splitlines():
             if found := LINE.match(line):
-                self.seconds[found[1]] = tuple(map(int, found.groups()[1:]))
+                self.seconds[found[1]] = tuple(0 if one == "-" else int(one) for one in found.groups()[1:])
+                self.unmeasured |= {(found[1], kind) for kind, one in zip(KINDS, found.groups()[1:]) if one == "-"}
             elif found := BOUND.match(line):
                 self.bounds[found[1]] = int(found[2])
             elif line.strip() and not line.startswith("#"):
