@@ -8,8 +8,6 @@ it ends with, 1 where a line says FAILED.
     report.part("a file that was spoiled", run, path)
     sys.exit(report.status)
 """
-import contextlib
-
 # What a part may fail by, besides what it found otherwise.
 FAULTS = (AssertionError, OSError, ValueError)
 
@@ -51,11 +49,11 @@ class Report:
         return self.say(there == wanted, what if there == wanted else f"{what}: {shown(there, most)}, and {shown(wanted, most)} is wanted")
 
     def each(self, what, faults):
-        """Prints a line for each fault, or one where there is none."""
+        """Prints a line for each fault, or one where there is none. Returns whether there is none."""
         found = list(faults)
         for one in found:
             self.say(False, one)
-        return bool(found) or self.say(True, what)
+        return not found and self.say(True, what)
 
     def part(self, what, run, *given, faults=()):
         """Runs a part. Prints that it is good, with what it returns, or the fault that it stopped at. Returns whether it is good. Where it
@@ -79,11 +77,3 @@ class Report:
         for one in differing[:most]:
             self.say(False, one)
         return not differing and self.say(True, what.format(count=count))
-
-    @contextlib.contextmanager
-    def until_differs(self, what, *faults):
-        """What is done inside prints lines of its own; where it stops, a last one says by what."""
-        try:
-            yield
-        except (Differs, *FAULTS, *faults) as fault:
-            self.say(False, f"{what}: {fault}")
