@@ -1,13 +1,20 @@
 # Runs ./check of the current folder, with its output in the file that is named, and tells what each crate cost. Twice a second it
-# looks at which processes of the prover there are, for which crate and with how much processor time so far.
+# looks at which processes of the prover there are, for which crate and with how much processor time so far. Where a second file is named
+# and all has passed, what each crate cost is put into that one, which is a tree's tools/seconds.
 import collections
 import glob
 import os
+import pathlib
+import platform
 import resource
 import subprocess
 import sys
 import threading
 import time
+
+sys.path.insert(0, str(pathlib.Path(__file__).resolve().parent.parent / "tools"))
+sys.dont_write_bytecode = True
+import costs  # noqa: E402
 
 TICKS = os.sysconf("SC_CLK_TCK")
 
@@ -96,6 +103,20 @@ def watch(spent, tries, done):
         sample(spent, tries, seen)
 
 
+def first_line(*words):
+    """The first line of what a command prints, or none."""
+    try:
+        return subprocess.run(words, capture_output=True, text=True).stdout.split("\n")[0].strip()
+    except OSError:
+        return ""
+
+
+def about():
+    """When this is, of which tree, with which kit and on which machine."""
+    tree, kit = first_line("git", "rev-parse", "--short", "HEAD"), first_line("rt", "version")
+    return f"{time.strftime('%Y-%m-%d')}, tree {tree or 'unknown'}, {kit or 'no kit'}, {os.cpu_count()} cores, {platform.machine()}"
+
+
 def main():
     spent, tries = collections.defaultdict(float), collections.defaultdict(float)
     done = threading.Event()
@@ -120,7 +141,12 @@ def main():
         print(f"{crate:<24} {columns} ({edits})")
     for (crate, edit), seconds in sorted(tries.items()):
         print(f"{crate}/{edit} {seconds:.0f}")
+    if status == 0 and sys.argv[2:]:
+        with open("crates.txt") as listed:
+            crates = costs.crates_in(listed.read())
+        costs.written(sys.argv[2], {crate: [spent[crate, kind] for kind in costs.KINDS] for crate in crates}, about())
     sys.exit(status)
 
 
-main()
+if __name__ == "__main__":
+    main()

@@ -6,11 +6,14 @@ are drawn before any time was asked for, which are of no tick, are zeros. Where 
 """
 import itertools
 import os
-import re
-import socket
 import struct
 import subprocess
+import sys
 import tempfile
+
+sys.path.append(os.path.join(os.path.dirname(os.path.dirname(os.path.abspath(__file__))), "lib"))
+import served  # noqa: E402
+from served import PATIENCE  # noqa: E402
 
 SHIM = r"""
 #define _GNU_SOURCE
@@ -44,8 +47,6 @@ int getentropy(void *words, size_t length) {
     return 0;
 }
 """
-# How long anything may take on a machine that has much else to do.
-PATIENCE = 300
 
 
 def folder():
@@ -78,49 +79,11 @@ def found(program, path, lab, content, environment):
     return ran.returncode, ran.stdout, ran.stderr
 
 
-class Server:
-    """labdesk serve over a file, for so many connections at a port that is free, or the reason why it doesn't listen."""
+class Server(served.Server):
+    """labdesk serve over a file, for so many connections, or the reason why it doesn't listen."""
 
     def __init__(self, program, path, count, environment, **further):
-        words = [program, "serve", "--file", path, "--port", "0", "--count", str(count)]
-        self.process = subprocess.Popen(words, stdout=subprocess.PIPE, stderr=subprocess.PIPE, env=environment, **further)
-        self.line = self.process.stdout.readline()
-        listening = re.fullmatch(rb"listening 127\.0\.0\.1:(\d+)\n", self.line)
-        self.port = int(listening[1]) if listening else None
-
-    def answer(self, request):
-        """All that is answered on a connection of its own to these bytes, after which nothing comes. A server may close it before it
-        has read them all."""
-        with socket.create_connection(("127.0.0.1", self.port), timeout=PATIENCE) as client:
-            try:
-                client.sendall(request)
-                client.shutdown(socket.SHUT_WR)
-            except OSError:
-                pass
-            answer = b""
-            try:
-                while part := client.recv(65536):
-                    answer += part
-            except ConnectionResetError:
-                pass
-            return answer
-
-    def ended(self):
-        """The status, and what was written after the first line, and told."""
-        try:
-            written, told = self.process.communicate(timeout=PATIENCE)
-        except subprocess.TimeoutExpired:
-            self.process.kill()
-            written, told = self.process.communicate()
-        return self.process.returncode, written, told
-
-    def __enter__(self):
-        return self
-
-    def __exit__(self, *_):
-        if self.process.poll() is None:
-            self.process.kill()
-            self.process.communicate()
+        super().__init__(program, path, count=count, environment=environment, **further)
 
 
 def play(program, room, path, stream):

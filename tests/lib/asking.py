@@ -1,0 +1,22 @@
+"""One way to ask a server: a request of some members, in the session of a token, and the status and the members of its reply."""
+import json
+
+
+def request_of(method, path, members=None, token=None, host="d"):
+    """The bytes of a request."""
+    content = b"" if members is None else json.dumps(members, ensure_ascii=False, separators=(",", ":")).encode()
+    head = [f"{method} {path} HTTP/1.1", f"Host: {host}"]
+    head += [f"Authorization: LabSession {token}"] if token else []
+    head += [f"Content-Length: {len(content)}"] if method == "POST" else []
+    return "\r\n".join([*head, "", ""]).encode() + content
+
+
+def read(reply):
+    """The status of a reply, and its members."""
+    head, _, members = reply.partition(b"\r\n\r\n")
+    return int(head.split()[1]), json.loads(members)
+
+
+def ask(server, method, path, members=None, token=None):
+    """The status and the members of a server's reply."""
+    return read(server.answer(request_of(method, path, members, token)))
