@@ -1,4 +1,4 @@
-# Runs ./check of the current folder, with its output in the file that is named, and tells what each crate cost. Twice a second it
+# Runs ./check of the current folder, with its output in the file that is named, and prints what each crate cost. Twice a second it
 # looks at which processes of the prover there are, for which crate and with how much processor time so far.
 import collections
 import glob
