@@ -606,7 +606,7 @@ export const texts = {
     nobody: 'nobody: it was made by labdesk copy',
     made_at: 'Made at',
     file_digest: 'SHA-256 of the whole file:',
-    cannot_know: 'No secret is in a digest or a seal, so a good copy is as trustworthy as the way in which it came. The check does not know whether records, or the last versions or signatures of a record, are left out, nor whether what the copy says of its making is so.',
+    cannot_know: 'No secret is in a digest or a seal, so a good copy is as trustworthy as the way in which it came. The check does not know whether records, or the last versions or signatures of a record, are left out, nor whether somebody changed who asked for the copy, when, and for which records.',
   },
 
   // What to type in place of what isn't accepted.
