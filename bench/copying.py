@@ -1,6 +1,6 @@
 #!/usr/bin/env python3
 """Times `labdesk check` on sound copies of some lengths and `labdesk copy` of many records, each beside something from outside, and
-tells the greatest memory of each.
+prints the greatest memory of each.
 
     bench/copying.py [PROGRAM [MEGABYTES ..]]   prints tables for docs/PERFORMANCE.md; without a program, over the one that is proved;
                                              without lengths, on copies of 1, 10 and 100 MB

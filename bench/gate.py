@@ -1,4 +1,4 @@
-# Runs ./check of the current folder, with its output in the file that is named, and tells what each crate cost. Twice a second it
+# Runs ./check of the current folder, with its output in the file that is named, and prints what each crate cost. Twice a second it
 # looks at which processes of the prover there are, for which crate and with how much processor time so far. Where a second file is named
 # and all has passed, what each crate cost is put into that one, which is a tree's tools/seconds.
 import collections

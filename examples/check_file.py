@@ -563,7 +563,7 @@ class Laboratory:
 
 def opened(path):
     """A connection that only reads. A file without a log, as a backup, is held by nobody, and nothing is left beside it."""
-    how = "mode=ro" if os.path.exists(f"{path}-wal") else "immutable=1"
+    how = "mode=ro" if os.path.exists(f"{path}-wal") else "mode=ro&immutable=1"
     return contextlib.closing(sqlite3.connect(f"file:{urllib.parse.quote(path)}?{how}", uri=True, timeout=1))
 
 

@@ -3,7 +3,7 @@
 
     client.py URL LAB CODE records                            prints each record: number, form, sample, state
     client.py URL LAB CODE trail [AFTER]                      prints each row of the trail: number, moment, person, action, subject
-    client.py URL LAB CODE released [AFTER]                   prints the versions that the trail's rows behind AFTER released, with values
+    client.py URL LAB CODE released [AFTER]                   prints the versions that the trail's rows after AFTER released, with values
     client.py URL LAB CODE last records|trail                 prints the last number of a list
     client.py URL LAB CODE form FORM                          prints the newest version of a form, and its fields
     client.py URL LAB CODE record FORM SAMPLE                 opens a record, or finds the one that is there
@@ -73,7 +73,7 @@ def connected(there):
         connection.close()
         advice = "is the server running, and is its address right?"
         if there.scheme == "https" and not isinstance(fault, ConnectionRefusedError):
-            advice = "is this the port of nginx, and does this machine know its certificate? The port of labdesk itself wants http://"
+            advice = "is this the port of nginx, and does this machine know its certificate? The port of labdesk itself needs http://"
         raise NotDone(f"no connection to {there.scheme}://{there.netloc}: {fault or repr(fault)}; {advice}") from fault
     connection.sock.settimeout(PATIENCE)
     return connection
@@ -121,7 +121,7 @@ def not_the_laboratorys(method, place, status):
 
 
 def last_that(is_there):
-    """The last number that is there, of numbers from 1 on without gaps, and 0 where there is none: it is doubled, and then halved."""
+    """The last number that is there, of numbers from 1 on without gaps, and 0 if there is no number: it is doubled, and then halved."""
     low, high = 0, 1
     while high <= MOST and is_there(high):
         low, high = high, 2 * high
@@ -177,7 +177,7 @@ class Client:
         return reply
 
     def ask(self, method, place, body=None):
-        """Sends a request in a session, which is opened where there is none, or where it has ended. What ended changed nothing."""
+        """Sends a request in the session. One is opened if it isn't there, or has ended: then nothing was done yet."""
         if self.token is None:
             self.open()
         try:
@@ -224,7 +224,7 @@ class Client:
     # ---- readings
 
     def pages(self, place, after=0):
-        """The elements of a list behind a number, a hundred numbers at a time. Numbers have no gaps, so a page that isn't full is the last."""
+        """The elements of a list after a number, a hundred numbers at a time. Numbers have no gaps, so a page that isn't full is the last."""
         first = after + 1
         while True:
             page = self.read("GET", f"{place}?from={first}&to={first + PAGE - 1}")[place[1:]]
@@ -238,7 +238,7 @@ class Client:
         return last_that(lambda number: self.read("GET", f"{place}?from={number}&to={number}")[place[1:]])
 
     def form(self, code, version):
-        """A version of a form, or nothing where there is none."""
+        """A version of a form, or nothing if there is no such version."""
         try:
             return self.read("GET", f"/forms/{code}/{version}")
         except Refused as refusal:
@@ -247,12 +247,12 @@ class Client:
         return None
 
     def newest_form(self, code):
-        """The newest version of a form, or nothing where there is none."""
+        """The newest version of a form, or nothing if there is no such form."""
         version = last_that(lambda number: self.form(code, number))
         return self.form(code, version) if version else None
 
     def released(self, after=0):
-        """The row of the trail that released a version, and the version, for each row behind that number."""
+        """The row of the trail that released a version, and the version, for each row after that number."""
         for row in self.pages("/trail", after):
             if row["action"] == "sign":
                 record, version, meaning = row["subject"].split("/")
@@ -426,7 +426,7 @@ def main(words):
         print(__doc__.strip())
         return 0
     if len(words) < 4 or len(words) - 4 not in WORDS.get(words[3], ()) or not re.match("https?://[^/]", words[0]):
-        say("the words are 'URL LAB CODE COMMAND ..'; '--help' lists the commands")
+        say("the arguments are 'URL LAB CODE COMMAND ..'; '--help' lists the commands")
         return 2
     url, lab, code, command, *further = words
     client = Client(url, lab, code, asked_once(typed_password))

@@ -20,7 +20,7 @@ MOST = 100
 LABS = "JOIN labs ON labs.id = {}.lab"
 VERSION = "JOIN versions ON versions.id = {0}.version JOIN records ON records.id = versions.record JOIN labs ON labs.id = records.lab " \
     "JOIN persons ON persons.id = {0}.person"
-# Each kind of rows: its columns, and where they come from. Columns that the old file lacks stand behind them, each with what it
+# Each kind of rows: its columns, and where they come from. Columns that the old file lacks stand after them, each with what it
 # has to be.
 KINDS = {
     "labs": ("labs.code, name, last, stray, records, sessions, trail", "labs", {}),

@@ -342,7 +342,7 @@ def main(words):
         print(__doc__.strip())
         return
     if words not in ([], ["--check"], ["--answers"]):
-        print("day.py: the words are '[--check | --answers]'; '--help' says more", file=sys.stderr)
+        print("day.py: the arguments are '[--check | --answers]'; '--help' says more", file=sys.stderr)
         sys.exit(2)
     day, path = whole_day(), f"{HERE}/day.events"
     if words == ["--answers"]:

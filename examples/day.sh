@@ -15,7 +15,7 @@ case ${1:-} in
     exit 0
     ;;
 -*)
-    echo "day.sh: the words are '[PROGRAM]'; '--help' says more" >&2
+    echo "day.sh: the arguments are '[PROGRAM]'; '--help' says more" >&2
     exit 2
     ;;
 esac
@@ -55,7 +55,7 @@ shortened() {
 
 asks() { curl -sS --noproxy '*' --max-time 60 "$@"; }
 
-# Sends a request of somebody to a laboratory: method, place behind it, body of a POST. Shows the reply, which has to have this
+# Sends a request of somebody to a laboratory: method, path, body of a POST. Shows the reply, which has to have this
 # status, and leaves its body in $reply.
 sends() {
     local status=$1 lab=$2 who=$3 method=$4 place=$5 words=() got
@@ -79,7 +79,7 @@ is_refused() {
     tells .error "$word"
 }
 
-# Looks at something that the last reply tells.
+# Looks at something in the last reply.
 tells() {
     local told
     told=$(jq -r "$1" <<<"$reply") || stop "the reply isn't JSON: $reply"
@@ -154,7 +154,7 @@ signs() {
     posts "$1" /signatures "$(signature "$@")"
 }
 
-# What is told of the record: the record, its versions and the trail.
+# What the server returns of the record: the record, its versions and the trail.
 reads_all() {
     for place in /records/1 /records/1/versions/{1,2,3} '/trail?from=1&to=100'; do
         gets hal "$place"
@@ -230,7 +230,7 @@ tells '[.trail[] | select(.person == "fay" and .action == "sign") | .subject] | 
 gets hal "/copy?from=1&to=100"
 sed 2d "$room/reply" >"$room/copy-of-hal"
 
-say "The other laboratory knows nothing of it. Its own ann signs in; the session of aqua's ann is none there."
+say "The other laboratory knows nothing of it. Its own ann signs in; the session of aqua's ann isn't valid there."
 sends 401 brick ann GET /persons
 tells .error no_session
 unset "token[ann]"
@@ -249,11 +249,11 @@ say "Anybody can check it, anywhere. Where one figure of a result was changed, i
 sed 's/,7\.52,/,7.25,/' "$room/copy.csv" >"$room/altered.csv"
 runs "bad digest 13" 1 check <"$room/altered.csv"
 
-say "The server is started again, and tells the same, byte for byte. Even the sessions go on."
+say "The server is started again, and returns the same, byte for byte. Even the sessions go on."
 starts_server
 reads_all after
 for before in "$room"/before*; do
-    cmp -s "$before" "${before/before/after}" || stop "$(basename "$before") was told otherwise before"
+    cmp -s "$before" "${before/before/after}" || stop "$(basename "$before") was another reply before"
 done
 stops_server
 

@@ -195,7 +195,7 @@ def words_of(words):
     there = parser.parse_args(words)
     wanted = [2] if there.trail else [1] if there.check_trail else [1, 2]
     if len(there.paths) not in wanted or not all(DAY.fullmatch(day) for day in (there.first, there.last) if day is not None):
-        parser.error("other words are wanted")
+        parser.error("other arguments are expected")
     return there
 
 

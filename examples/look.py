@@ -1,5 +1,5 @@
 #!/usr/bin/env python3
-"""A short day of one laboratory, told to people, and what a model in Python replies to each of its requests.
+"""A short day of one laboratory, printed for people, and what a model in Python replies to each of its requests.
 
     examples/look.py                    writes docs/look.svg, a picture of the day's second half, as the model plays it
     examples/look.py --check            says whether the picture is as it would be written
@@ -416,7 +416,7 @@ def main(words):
         with open(PICTURE, "w") as file:
             file.write(picture())
     else:
-        progress("look.py: the words are '[--check | --play [PROGRAM]]'; '--help' says more")
+        progress("look.py: the arguments are '[--check | --play [PROGRAM]]'; '--help' says more")
         return 2
     return 0
 

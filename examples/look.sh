@@ -13,7 +13,7 @@ case ${1:-} in
 '') exec python3 "$(dirname "$(readlink -f "${BASH_SOURCE[0]}")")/look.py" --play ;;
 -h | --help) sed -n '2,/^[^#]/s/^# \{0,1\}//p' "${BASH_SOURCE[0]}" ;;
 *)
-    echo "look.sh: it takes no words; '--help' says more" >&2
+    echo "look.sh: it takes no arguments; '--help' says more" >&2
     exit 2
     ;;
 esac

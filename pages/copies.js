@@ -11,6 +11,7 @@ import { is_left } from './life.js';
 import { AT_ONCE } from './limits.js';
 import { hundreds, number_of } from './numbers.js';
 import { last_record } from './reading.js';
+import { remarks_on } from './remarks.js';
 import { say } from './saying.js';
 import { refuse, sending_form } from './sending.js';
 import { ask, who } from './session.js';
@@ -145,6 +146,7 @@ async function check(file, shown) {
     paragraph(is_good ? words.good_text(verdict.counts) : words.flaws[verdict.verdict]),
     !is_good && verdict.row && paragraph(words.at_row(verdict.row), ' ', record_at(bytes, verdict.row))),
   is_good && facts_of_copy(bytes),
+  is_good && remarks_part(remarks_on(bytes)),
   paragraph(words.file_digest, ' ', element('code', { class: 'digest', 'data-part': 'file_digest' }, digits)),
   paragraph(words.cannot_know));
   shown.focus();
@@ -160,6 +162,15 @@ function record_at(bytes, row) {
     if (at === row) break;
   }
   return record && words.in_record(...record, version);
+}
+
+// What is remarked on a good copy, if something is: the first hundred.
+function remarks_part(found) {
+  if (found.length === 0) return null;
+  const lines = found.slice(0, AT_ONCE).map(({ remark, row, record }) => element('li', { 'data-remark': remark }, words.remarks[remark](row, record)));
+  const more = found.length - lines.length;
+  return section(words.remarks_title, { 'data-part': 'remarks' }, paragraph(words.remarks_intro), element('ul', null, ...lines),
+    more > 0 && paragraph(words.more_remarks(more)));
 }
 
 // What the copy row of a good copy says.

@@ -12,7 +12,7 @@ import time
 
 from room import PATIENCE, TOP, Asker, Served, Stop, same, say
 
-MOST_BYTES, MOST_SENT = 340_000, 125_000
+MOST_BYTES, MOST_SENT = 345_000, 125_000
 # The one module that keeps something, and how it may: the code of a laboratory, which is no secret, under one key.
 KEEPER, KEEPS = "lab.js", (r"const KEY = 'koghdise lab';", r"localStorage\.getItem\(KEY\)", r"localStorage\.setItem\(KEY, lab\)")
 TYPES = {".html": "text/html; charset=utf-8", ".css": "text/css; charset=utf-8", ".js": "text/javascript; charset=utf-8", ".svg": "image/svg+xml"}
@@ -130,7 +130,7 @@ def until_shut(*ports):
 def look_at_words(program, room):
     status, printed, told = ran("--help")
     say((status, told) == (0, "") and printed.startswith("Serve the pages on this machine"), "labdesk-pages --help")
-    same("words that are none", ran("--labdesk")[::2], (2, "labdesk-pages: the words are '[--labdesk P] [FILE]'; '--help' says more\n"))
+    same("words that are none", ran("--labdesk")[::2], (2, "labdesk-pages: the arguments are '[--labdesk P] [FILE]'; '--help' says more\n"))
     none = room / "none"
     status, printed, told = ran("--labdesk", program, none)
     say((status, printed) == (1, "") and "not_a_desk_file" in told and f"didn't start over {none}" in told, f"a file that isn't there: {told!r}")
