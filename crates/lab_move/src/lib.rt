@@ -16,5 +16,5 @@ mod testing;
 
 pub use faults::MoveFault;
 pub use lab_move_writing::{MoveProgress, Unwatched};
-pub use moving::{an_unfinished_file_is_refused, migrate};
+pub use moving::{an_exact_file_is_named, an_unfinished_file_is_refused, migrate};
 pub use opening::{OldFile, open_old};
