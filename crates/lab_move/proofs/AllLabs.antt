@@ -4,9 +4,8 @@ use Rattle.std.specs.Prelude.{All}
 use Rattle.sqlite.specs.Effect.{Database}
 use Rattle.sqlite.specs.State.{State, HasCleanDisk}
 use Rattle.lab_store_tables.specs.Rows.{Tables}
-use Rattle.lab_move_tables.specs.OldRows.{IsOldFile, old_tables}
-use Rattle.lab_move_tables.specs.Reading.{ReadsOld, old_tables_of}
-use Rattle.lab_move_rows.proofs.OldReaders.{may_then}
+use Rattle.lab_move_tables.specs.Reading.{ReadsOld}
+use Rattle.lab_move_rows.proofs.OldReaders.{may_then, stands_since}
 use Rattle.lab_move_files.specs.Commits.{MakesAtOnce}
 use Rattle.lab_move_files.specs.Unfinished.{Finishes}
 use Rattle.lab_move_labs.specs.Laboratories.{codes_of}
@@ -21,7 +20,7 @@ use Rattle.lab_move.proofs.Steps.{step_more, steps_as, steps_fail}
 pub counted : {E F : Type 0} (codes : List (List ℕ)) {old mid new : State} {r : Result ℕ F}
     → ReadsOld {T = Unit {0}} {E = E} (λ t _. All (IsSoundIn t) codes) old mid (Ok tt)
     → ReadsOld (λ t count. count ≡ length codes) mid new r → ReadsOld (AreCounted codes) old new r
-counted codes read next = may_then read next (λ file all n is. (sym is, all))
+counted codes read next = may_then read next (λ t file all n is. (sym is, all))
 
 pub finishes_all : {B E F : Type 0} (codes : List (List ℕ)) {before after old mid new : State} {r : Result B F}
     → Fills {A = Unit {0}} {E = E} (HasThese before after codes) (Ok tt) old mid
@@ -38,7 +37,7 @@ all_later codes r {before} {after} {late} clean it =
     steps_as r it (λ db h begun. elim (h begun) [ inl filling ↦ inl filling | inr whole ↦ inr (later db whole) ]) (λ db h begun. later db (h begun))
   where
     later : (db : Database) → IsWholeOf before after codes db → IsWholeOf before late codes db
-    later db whole = record { file = whole.file; sound = whole.sound; same = λ so. whole.same (so.0, clean so.1) }
+    later db whole = record { file = whole.file; sound = whole.sound; same = λ t so. whole.same t (so.0, clean so.1) }
 
 pub fails_all : {A B E F : Type 0} (codes : List (List ℕ)) {before after old new : State} {e : E} (f : F)
     → Fills {A = A} (HasThese before after codes) (Err e) old new
@@ -49,7 +48,7 @@ fails_all codes f p = steps_fail f p (λ db h begun. inl (h begun))
 
 module _ {E : Type 0} (codes : List (List ℕ)) (before mid after : State) (read : ReadsOld {E = E} (λ t made. made ≡ codes_of t) before mid (Ok codes)) where
   pub all_counted : {F : Type 0} {r : Result ℕ F} → ReadsOld (AreCounted codes) mid after r → ReadsOld (λ t. AreCounted (codes_of t) t) before after r
-  all_counted next = may_then read next (λ file is count it. subst (λ l. AreCounted l (old_tables_of before) count) is it)
+  all_counted next = may_then read next (λ t file is count it. subst (λ l. AreCounted l t count) is it)
 
   module _ (clean : HasCleanDisk after → HasCleanDisk mid) where
     pub all_filled : {B F : Type 0} (r : Result B F) {old new : State} → FillsAll (IsWholeOf mid after codes) r old new
@@ -59,14 +58,13 @@ module _ {E : Type 0} (codes : List (List ℕ)) (before mid after : State) (read
         (λ db h begun. whole_is before mid after codes db read clean (h begun))
 
     pub all_blamed : {A : Type 0} (r : Result A MoveFault) → IfErr r (BlamesFirst mid after codes) → IfErr r (BlamesFirstOfAll before after)
-    all_blamed r it = errs_as r (λ one first so.
+    all_blamed r it = errs_as r (λ one first t so.
         let late = clean so.1 in
-        let here : IsFirstUnsound (old_tables_of before) codes one =
-        subst (λ (db : Database). IsOldFile db → IsFirstUnsound (old_tables db.trees) codes one) (read.shows late) (λ file. first (file, so.1)) so.0 in
-        subst (λ l. IsFirstUnsound (old_tables_of before) l one) (read.answer so.0 late) here) it
+        let here : IsFirstUnsound t codes one = first t (stands_since (read.shows late) t so.0, so.1) in
+        subst (λ l. IsFirstUnsound t l one) (read.answer t so.0 late) here) it
 
 -- after a call that read nothing of the tables
 pub read_on : {A B E F : Type 0} {Is : Tables → B → Type 0} {old mid new : State} {a : A} {r : Result B F}
     → ReadsOld {E = E} (λ t x. Unit {0}) old mid (Ok a) → ReadsOld Is mid new r
     → ReadsOld Is old new r
-read_on p q = may_then p q (λ file it b is. is)
+read_on p q = may_then p q (λ t file it b is. is)

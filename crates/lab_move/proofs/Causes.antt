@@ -1,20 +1,19 @@
 -- Why a move was refused, and that it did nothing to the new file where it was refused early.
 use Rattle.std.proofs.Common.{◌≡◌, ◌≢◌, ◌⊎◌, inl, inr, ℕ, false, Ok, Err, Result, IfOk, IfErr, OnOk, IsTrue, refl, sym, ap, subst, ◌∙◌}
-use Rattle.sqlite.specs.Effect.{Database}
 use Rattle.sqlite.specs.State.{State, HasCleanDisk}
 use Rattle.lab_store_tables.specs.Ready.{tables_of}
 use Rattle.lab_store_files.specs.declared.faults.FileFault.{FileFault}
 use Rattle.lab_store_files.specs.declared.faults.FileFault.TheVariants.{NotADeskFile, SchemaOld, SchemaNew, Storage, NotEmpty, Memory}
 use Rattle.lab_store_files.specs.Faults.{FailedInStore}
 use Rattle.lab_store_files.specs.Schemas.{is_taken}
-use Rattle.lab_move_tables.specs.OldRows.{IsOldFile, old_tables}
-use Rattle.lab_move_tables.specs.Reading.{old_tables_of}
+use Rattle.lab_store_tables.specs.Rows.{Tables}
+use Rattle.lab_move_rows.proofs.OldReaders.{stands_since}
 use Rattle.lab_move_labs.specs.Laboratories.{codes_of}
 use Rattle.lab_move.specs.declared.faults.MoveFault.{MoveFault}
 use Rattle.lab_move.specs.declared.faults.MoveFault.TheVariants.{File, NotSound}
 use Rattle.lab_move.specs.Faults.{IsOfStore, is_early}
 use Rattle.lab_move.specs.OldFiles.{IsNamedOldFile, IsOldVerdict, IsNoneOfOld, OldAnswers}
-use Rattle.lab_move.specs.Moving.{AreCounted, BlamesFirstOfAll, HasCause, IsFirstUnsound, IsMoved, IsRead, IsWhole}
+use Rattle.lab_move.specs.Moving.{AreCounted, BlamesFirstOfAll, HasCause, IsMoved, IsRead, IsWhole}
 use Rattle.lab_move.proofs.Codes.{as_many}
 
 -- ---- the verdict on the old file
@@ -92,8 +91,7 @@ pub filled_cause : {A : Type 0} (before mid after fresh : State) (r : Result A M
     → IfErr r (HasCause before after fresh)
 filled_cause before mid after fresh (Ok a) same h = tt
 filled_cause before mid after fresh (Err (File fault)) same h = store_cause before after fresh fault h
-filled_cause before mid after fresh (Err (NotSound lab)) same h = λ so.
-    subst (λ (db : Database). IsOldFile db → IsFirstUnsound (old_tables db.trees) (codes_of (old_tables db.trees)) lab) (same so.1) (λ file. h (file, so.1)) so.0
+filled_cause before mid after fresh (Err (NotSound lab)) same h = λ t so. h t (stands_since (same so.1) t so.0, so.1)
 
 store_late : (Same : Type 0) (fault : FileFault) → IsOfStore fault → IsTrue (is_early (File fault)) → Same
 store_late Same fault (inl e) early = absurd (let late : is_early (File fault) ≡ false = ap (λ it. is_early (File it)) e in cc)
@@ -107,11 +105,10 @@ filled_late Same mid after (Err (NotSound lab)) h = λ early. absurd cc
 
 -- ---- what was moved
 
-pub all_moved : {F : Type 0} (before after new : State) (r : Result ℕ F) → IsRead before after
-    → IfOk r (AreCounted (codes_of (old_tables_of before)) (old_tables_of before))
-    → OnOk r (IsTrue new.is_open × IsWhole before after new.now) → IfOk r (IsMoved (old_tables_of before) (tables_of new))
-all_moved before after new (Ok count) read counted whole = record { count = as_many (old_tables_of before) ∙ counted.0; sound = counted.1; same = whole.1.same read }
-all_moved before after new (Err e) read counted whole = tt
+pub all_moved : {F : Type 0} (before after new : State) (r : Result ℕ F) (t : Tables) → IsRead before after t → IfOk r (AreCounted (codes_of t) t)
+    → OnOk r (IsTrue new.is_open × IsWhole before after new.now) → IfOk r (IsMoved t (tables_of new))
+all_moved before after new (Ok count) t read counted whole = record { count = as_many t ∙ counted.0; sound = counted.1; same = whole.1.same t read }
+all_moved before after new (Err e) t read counted whole = tt
 
 pub made_taken : {P Same : Type 0} (r : Result (Unit {0}) FileFault) → r ≡ Err NotEmpty → (r ≡ Err NotEmpty → P × Same) → OnOk r ⊥ × Same
 made_taken r is empty = (subst (λ (it : Result (Unit {0}) FileFault). OnOk it ⊥) (sym is) tt, (empty is).1)

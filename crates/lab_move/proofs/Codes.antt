@@ -13,7 +13,7 @@ use Rattle.lab_records_kept.specs.Worlds.{Meaning, SameMeaning, Places}
 use Rattle.lab_store_tables.specs.Rows.{LabRow, Tables}
 use Rattle.lab_store_tables.specs.Meaning.{has_code, lab_in, meaning}
 use Rattle.lab_store_columns.proofs.Lists.{text_is, text_alike}
-use Rattle.lab_move_rows.specs.Shown.{by_lab}
+use Rattle.lab_move_tables.specs.Shown.{by_lab}
 use Rattle.lab_move_labs.specs.Laboratories.{codes_of, IsLabOf, IsLabOfRow}
 use Rattle.lab_move.specs.Moving.{meaning_among}
 

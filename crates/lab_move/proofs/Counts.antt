@@ -23,8 +23,7 @@ use Rattle.lab_store_tables.specs.Schema.{lab_schema}
 use Rattle.lab_store_tables.specs.Family.{Labs, Persons, Sessions, Forms, Fields, Choices, Records, Versions, Entries, Signatures, Trail}
 use Rattle.lab_store_columns.proofs.Queries.{IsRead}
 use Rattle.lab_store_columns.proofs.Sorted.{only_answer}
-use Rattle.lab_move_rows.proofs.Bare.{understood_bare}
-use Rattle.lab_move.specs.Counting.{AreAlike, AreCounts, ShowsOf, counts_row, counts_text, shown_count}
+use Rattle.lab_move.specs.Counting.{AreAlike, AreCounts, counts_row, counts_text, shown_count}
 
 -- ---- the question
 
@@ -155,15 +154,6 @@ pub counts_known : (old new : State) (rows : List Row) → IsTyped old.now → S
 counts_known old new rows typed h =
     let read = reads_as counts_text [] old new lab_schema typed.schema _ counts_are counts_plain counts_unlisted rows h in
     counts_found (overlay old.now.trees []) rows (read.answer Null) ∙ ap (λ row. row ∷ []) (trees_counted old.now typed)
-
--- ---- under any schema
-
-pub shows_of : (sql : List ℕ) → IsRead (first sql) → (old new : State) (rows : List Row) → Shown sql [] old new rows → ShowsOf old.now sql rows
-unfolding Shown
-shows_of sql read old new rows h =
-    let bare : h.0.returning ≡ None = understood_bare sql read old.now.schema h.0 h.1.is in
-    let it = rw bare at h.2 in
-    record { read = h.0; is = h.1.is; source = it.0; from = it.1; moment = h.1.now; shown = it.2 }
 
 -- ---- what both show
 

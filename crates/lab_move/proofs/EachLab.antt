@@ -7,9 +7,8 @@ use Rattle.sqlite.specs.Effect.{Database}
 use Rattle.sqlite.specs.State.{State, HasCleanDisk}
 use Rattle.lab_store_tables.specs.Rows.{Tables}
 use Rattle.lab_store_tables.specs.Ready.{IsAtRest}
-use Rattle.lab_move_tables.specs.OldRows.{IsOldFile, old_tables}
-use Rattle.lab_move_tables.specs.Reading.{ReadsOld, old_tables_of}
-use Rattle.lab_move_rows.proofs.OldReaders.{none_read, may_both, may_and}
+use Rattle.lab_move_tables.specs.Reading.{ReadsOld}
+use Rattle.lab_move_rows.proofs.OldReaders.{none_read, may_both, may_and, stands_since}
 use Rattle.lab_move_files.specs.Commits.{MakesAtOnce}
 use Rattle.lab_move_files.proofs.Commits.{told_ok}
 use Rattle.lab_move.specs.declared.faults.MoveFault.{MoveFault}
@@ -24,7 +23,7 @@ pub record HasMoved (done : List (List ℕ)) (old now was is : State) : Type 0 w
   pub fills : Fills {A = Unit {0}} {E = ⊥} (HasThese old now done) (Ok tt) was is
 
 pub none_moved : (old was : State) → IsAtRest was → HasMoved [] old old was was
-none_moved old was rest = record { reads = none_read (All-nil (IsSoundIn (old_tables_of old))); fills = no_step tt was rest (none_carried old old was.now) }
+none_moved old was rest = record { reads = none_read (λ t. All-nil (IsSoundIn t)); fills = no_step tt was rest (none_carried old old was.now) }
 
 -- the files at both ends of a reading have the same rows
 same_rows : {A E : Type 0} {Was : Tables → A → Type 0} {old now : State} {a : A} → ReadsOld {E = E} Was old now (Ok a) → HasCleanDisk now → now.now ≡ old.now
@@ -43,25 +42,23 @@ module _ {done : List (List ℕ)} {old mid was is : State} (so : HasMoved done o
   pub one_moved : {F : Type 0} {now new : State} → ReadsOld {T = Unit {0}} {E = F} (λ t _. IsSoundIn t code) mid now (Ok tt)
       → MakesAtOnce (CarriesFrom mid now code is.now) {A = Unit {0}} {E = F} (Ok tt) is new → HasMoved (done ++ code ∷ []) old now was new
   one_moved {now = now} {new = new} read it = record {
-    reads = may_both so.reads read (λ file all one. All-push (IsSoundIn (old_tables_of old)) done code all one);
+    reads = may_both so.reads read (λ t file all one. All-push (IsSoundIn t) done code all one);
     fills = next_fills read.passes.clean (told_ok tt tt it);
   }
 
   -- where it failed
   module _ {A F : Type 0} {now : State} {r : Result A F} (read : ReadsOld (λ t _. IsSoundIn t code) mid now r) where
     pub blamed_first : (codes rest : List (List ℕ)) → codes ≡ done ++ code ∷ rest → (one : List ℕ)
-        → (one ≡ code) × (IsRead mid now → IsUnsoundIn (old_tables_of mid) code)
-        → IsRead old now → IsFirstUnsound (old_tables_of old) codes one
-    blamed_first codes rest split one it here =
+        → (one ≡ code) × ((t : Tables) → IsRead mid now t → IsUnsoundIn t code)
+        → (t : Tables) → IsRead old now t → IsFirstUnsound t codes one
+    blamed_first codes rest split one it t here =
         let clean = read.passes.clean here.1 in
-        let same : mid.now ≡ old.now = so.reads.shows clean in
-        let unsound : IsUnsoundIn (old_tables_of old) code =
-        subst (λ (db : Database). IsOldFile db → IsUnsoundIn (old_tables db.trees) code) same (λ file. it.1 (file, here.1)) here.0 in (
+        let unsound : IsUnsoundIn t code = it.1 t (stands_since (so.reads.shows clean) t here.0, here.1) in (
           done,
           rest,
           subst (λ c. codes ≡ done ++ c ∷ rest) (sym it.0) split,
-          so.reads.answer here.0 clean,
-          subst (IsUnsoundIn (old_tables_of old)) (sym it.0) unsound,
+          so.reads.answer t here.0 clean,
+          subst (IsUnsoundIn t) (sym it.0) unsound,
         )
 
 -- a fault that is handed on
@@ -90,7 +87,7 @@ grown xs i x d lt is = ap (λ it. take i xs ++ it ∷ []) is ∙ sym (take_more 
 
 pub all_read : {F : Type 0} {done codes : List (List ℕ)} {old now was is : State} → HasMoved done old now was is → done ≡ codes
     → ReadsOld {T = Unit {0}} {E = F} (λ t _. All (IsSoundIn t) codes) old now (Ok tt)
-all_read {old = old} so same = may_and so.reads (λ file all. subst (All (IsSoundIn (old_tables_of old))) same all)
+all_read so same = may_and so.reads (λ t file all. subst (All (IsSoundIn t)) same all)
 
 pub all_filled : {F : Type 0} {done codes : List (List ℕ)} {old now was is : State} → HasMoved done old now was is → done ≡ codes
     → Fills {A = Unit {0}} {E = F} (HasThese old now codes) (Ok tt) was is

@@ -5,11 +5,11 @@ use Rattle.sqlite.specs.State.{State, HasCleanDisk}
 use Rattle.lab_records_kept.specs.declared.labs.Lab.{Lab}
 use Rattle.lab_records_kept.specs.Worlds.{Meaning, SameMeaning, Places}
 use Rattle.lab_records_laws.specs.Stepping.{WhereThere}
-use Rattle.lab_store_tables.specs.Rows.{tables_in}
+use Rattle.lab_store_tables.specs.Rows.{Tables, tables_in}
 use Rattle.lab_store_tables.specs.Meaning.{meaning}
 use Rattle.lab_store_columns.proofs.Lists.{text_is, text_alike}
-use Rattle.lab_move_tables.specs.OldRows.{IsOldFile, old_tables}
-use Rattle.lab_move_tables.specs.Reading.{ReadsOld, old_tables_of}
+use Rattle.lab_move_tables.specs.Reading.{ReadsOld}
+use Rattle.lab_move_rows.proofs.OldReaders.{stands_since}
 use Rattle.lab_move_files.specs.Unfinished.{Finishes}
 use Rattle.lab_move_labs.specs.Laboratories.{codes_of, IsLabOf}
 use Rattle.lab_move.specs.Moving.{IsSoundLab, AreAll, IsRead, IsBegun, HasCarried, HasThese, IsWholeOf, IsWhole, CarriesFrom, meaning_among}
@@ -45,24 +45,19 @@ placed_of Holds was now lab is places all other = go (bytes_eq lab.code other) r
 pub carried_from : {IsFile : Database → Type 0} {among : Meaning → Meaning} {early before after : State} (db : Database)
     → (HasCleanDisk after → before.now ≡ early.now)
     → HasCarried IsFile before after among db → HasCarried IsFile early after among db
-carried_from {IsFile} {among} {early} {before} {after} db same it = record {
-  file = it.file;
-  sound = it.sound;
-  same = λ read.
-      subst (λ (was : Database). IsOldFile was → SameMeaning (among (meaning (old_tables was.trees))) (meaning (tables_in db.trees))) (same read.1) (λ file. it.same (file, read.1)) read.0;
-}
+carried_from db same it = record { file = it.file; sound = it.sound; same = λ t read. it.same t (stands_since (same read.1) t read.0, read.1) }
 
 -- in other words
 pub carried_as : {IsFile : Database → Type 0} {among other : Meaning → Meaning} {before after : State} (db : Database)
-    → (IsRead before after → SameMeaning (other (meaning (old_tables_of before))) (among (meaning (old_tables_of before))))
+    → ((t : Tables) → IsRead before after t → SameMeaning (other (meaning t)) (among (meaning t)))
     → HasCarried IsFile before after among db
     → HasCarried IsFile before after other db
-carried_as db same it = record { file = it.file; sound = it.sound; same = λ read code. it.same read code ∙ same read code }
+carried_as db same it = record { file = it.file; sound = it.sound; same = λ t read code. it.same t read code ∙ same t read code }
 
 -- ---- laboratory by laboratory
 
 pub none_carried : (before after : State) (db : Database) → IsBegun db → HasThese before after [] db
-none_carried before after db begun = record { file = begun.filling; sound = none_of IsSoundLab (meaning (tables_in db.trees)) begun.empty; same = λ read code. begun.empty code }
+none_carried before after db begun = record { file = begun.filling; sound = none_of IsSoundLab (meaning (tables_in db.trees)) begun.empty; same = λ t read code. begun.empty code }
 
 pub one_carried : (early before after : State) (done : List (List ℕ)) (code : List ℕ) (was db : Database) → (HasCleanDisk after → HasCleanDisk before)
     → (HasCleanDisk before → before.now ≡ early.now)
@@ -73,13 +68,11 @@ one_carried early before after done code was db clean same it so =
     record {
       file = placed.0;
       sound = placed_of IsSoundLab (meaning (tables_in was.trees)) (meaning (tables_in db.trees)) lab it.1 placed.1 so.sound;
-      same = λ read.
+      same = λ t read.
           let mid = clean read.1 in
-          let here : IsOldFile before.now = subst IsOldFile (sym (same mid)) read.0 in
-          let there = subst (λ (old : Database). IsLabOf (old_tables old.trees) code (Some lab)) (same mid) (it.3 (here, read.1)) in
-          let means = lab_means (old_tables_of early) code lab there in
-          among_more done code (meaning (old_tables_of early)) (meaning (tables_in was.trees)) (meaning (tables_in db.trees)) lab means.0 means.1 placed.1
-          (so.same (read.0, mid));
+          let there : IsLabOf t code (Some lab) = it.3 t (stands_since (same mid) t read.0, read.1) in
+          let means = lab_means t code lab there in
+          among_more done code (meaning t) (meaning (tables_in was.trees)) (meaning (tables_in db.trees)) lab means.0 means.1 placed.1 (so.same t (read.0, mid));
     }
 
 -- ---- finished
@@ -88,7 +81,7 @@ pub finished : (before after : State) (codes : List (List ℕ)) (was db : Databa
     → IsWholeOf before after codes db
 finished before after codes was db it so =
     let whole = it so.file in
-    record { file = whole.0; sound = all_of IsSoundLab (meaning (tables_in was.trees)) (meaning (tables_in db.trees)) whole.1 so.sound; same = λ read code. whole.1 code ∙ so.same read code }
+    record { file = whole.0; sound = all_of IsSoundLab (meaning (tables_in was.trees)) (meaning (tables_in db.trees)) whole.1 so.sound; same = λ t read code. whole.1 code ∙ so.same t read code }
 
 -- of all codes that were read
 pub whole_is : {E : Type 0} (early before after : State) (codes : List (List ℕ)) (db : Database)
@@ -97,7 +90,7 @@ pub whole_is : {E : Type 0} (early before after : State) (codes : List (List ℕ
 whole_is early before after codes db read clean it =
     let was = carried_from db (λ late. read.shows (clean late)) it in
     carried_as db
-    (λ so code.
-    let all : codes ≡ codes_of (old_tables_of early) = read.answer so.0 (clean so.1) in
-    ap (λ l. meaning_among l (meaning (old_tables_of early)) code) all ∙ sym (all_among (old_tables_of early) code))
+    (λ t so code.
+    let all : codes ≡ codes_of t = read.answer t so.0 (clean so.1) in
+    ap (λ l. meaning_among l (meaning t) code) all ∙ sym (all_among t code))
     was

@@ -1,11 +1,12 @@
--- The question for the number of a schema, asked of a file of schema 2; and which verdicts there are.
+-- The question for the number of a schema, asked of a file of schema 2 in either style; and which verdicts there are.
 use Rattle.std.proofs.Common.{◌≡◌, ◌≢◌, ◌≤◌, inl, inr, ℕ, ℤ, pos, negsuc, Bool, true, false, ◌==◌, List, [], ◌∷◌, codes, map, filter, length, Option, Some, None, Ok, Err, Result, IfOk, IsTrue, refl, sym, ap, ap₂, subst, ◌∙◌, arith}
 use Rattle.std.specs.Prelude.{if◌then◌else◌, int_lt, unsigned_abs}
-use Rattle.std.proofs.lemmas.Bool.{eqb-true}
-use Rattle.sqlite_value.specs.declared.value.Value.TheVariants.{Null, Int}
+use Rattle.std.specs.Option.{option_map_or}
+use Rattle.std.proofs.lemmas.Bool.{eqb-true, and_parts}
+use Rattle.sqlite_value.specs.declared.value.Value.TheVariants.{Int}
 use Rattle.sqlite_value.specs.Order.{Row}
 use Rattle.sqlite_schema.specs.declared.schema.Schema.{Schema}
-use Rattle.sqlite_schema.specs.declared.command.Command.TheVariants.{Select}
+use Rattle.sqlite_schema.specs.declared.schema.Table.{Table}
 use Rattle.sqlite_schema.specs.Names.{same_name}
 use Rattle.sqlite_resolve.specs.Compile.{first}
 use Rattle.sqlite_sql.specs.Program.{overlay}
@@ -14,27 +15,33 @@ use Rattle.sqlite_sql.specs.Term.{lit, col}
 use Rattle.sqlite_tied.specs.Compute.{everything}
 use Rattle.sqlite_typed.proofs.AnswerLemmas.{last_table, at_end}
 use Rattle.sqlite.specs.Effect.{Database}
-use Rattle.sqlite.specs.Listing.{understood, reads_listing}
+use Rattle.sqlite.specs.Listing.{understood}
 use Rattle.sqlite.specs.State.{State, Shown}
-use Rattle.sqlite.proofs.Callers.{IsPlain, command_of, reads_as}
 use Rattle.lab_forms_texts.specs.declared.refusals.Fault.{Fault}
 use Rattle.lab_forms_texts.specs.declared.refusals.Fault.TheVariants as reading
 use Rattle.lab_records_kept.specs.declared.faults.BadStore.{BadStore}
 use Rattle.lab_store_tables.specs.Rows.{DeskRow, Tables, desk_row, desk_id, number}
-use Rattle.lab_store_tables.specs.Family.{Desk}
+use Rattle.lab_store_tables.specs.Family.{Desk as DeskRows}
+use Rattle.lab_store_tables.specs.Held.{AreRising}
 use Rattle.lab_store_columns.proofs.Queries.{IsRead}
 use Rattle.lab_store_columns.proofs.Sorted.{only_answer}
 use Rattle.lab_store_files.specs.declared.faults.FileFault.{FileFault}
 use Rattle.lab_store_files.specs.declared.faults.FileFault.TheVariants.{NotADeskFile, SchemaOld, SchemaNew, NotEmpty, Storage, Memory}
 use Rattle.lab_store_files.specs.Faults.{FailedInStore}
-use Rattle.lab_store_files.specs.Schemas.{has_number}
+use Rattle.lab_store_files.specs.Schemas.{has_column, has_number, table_named}
 use Rattle.lab_store_files.specs.Verdicts.{number_query, number_shown}
 use Rattle.lab_move_tables.specs.OldSchema.{old_schema}
-use Rattle.lab_move_tables.specs.OldRows.{old_tables}
+use Rattle.lab_move_tables.specs.OldRows.{IsOldFile, old_tables}
+use Rattle.lab_move_tables.specs.PeerFiles.{IsPeerFile, peer_schema}
+use Rattle.lab_move_tables.specs.Showing.{ShowsOf}
 use Rattle.lab_move_tables.specs.Reading.{ReadsOld}
+use Rattle.lab_move_rows.proofs.Bare.{shows_of}
 use Rattle.lab_move_rows.proofs.OldReaders.{passes_none}
+use Rattle.lab_move_rows.proofs.OldTexts.{MeansIn}
+use Rattle.lab_move_rows.proofs.OldExact.{answered}
 use Rattle.lab_move.specs.Faults.{read_told, IsOfStore}
-use Rattle.lab_move.specs.OldFiles.{old_number, is_whole, is_old_desk, whole_verdict, shown_verdict, old_verdict, IsNamedOldFile}
+use Rattle.lab_move.specs.declared.old_tables.OldTable.TheVariants.{Desk}
+use Rattle.lab_move.specs.OldFiles.{old_number, own_table, is_like, is_whole, is_old_desk, whole_verdict, shown_verdict, old_verdict, IsNamedOldFile}
 
 -- ---- what the question means
 
@@ -55,19 +62,18 @@ pub desk_read : IsRead (first number_query)
 unfolding understood everything
 desk_read = (_, refl)
 
-desk_is : command_of (understood old_schema number_query) ≡ Select (record { lets = []; body = desk_query }) (codes "schema" ∷ [])
-unfolding understood everything
-desk_is = refl
+abbrev DeskMeans : Schema → Type 0
+DeskMeans schema = MeansIn schema number_query desk_query (codes "schema" ∷ [])
 
-desk_unlisted : reads_listing old_schema number_query ≡ false
+desk_means : DeskMeans old_schema
 unfolding understood everything
-desk_unlisted = refl
+desk_means = record { read = (_, refl); command = refl; unlisted = refl; plain = (refl, refl) }
 
-desk_plain : IsPlain (understood old_schema number_query)
+peer_desk_means : DeskMeans peer_schema
 unfolding understood everything
-desk_plain = (refl, refl)
+peer_desk_means = record { read = (_, refl); command = refl; unlisted = refl; plain = (refl, refl) }
 
--- ---- what it shows of a file of schema 2
+-- ---- what it shows of a file whose schema and whose rows are known
 
 abbrev number_row : DeskRow → Row
 number_row one = number one.number ∷ []
@@ -85,33 +91,45 @@ desk_shown [] h = absurd cc
 desk_shown (one ∷ []) h = ap (λ n. (number n ∷ []) ∷ []) (same_number one.number old_number h)
 desk_shown (one ∷ other ∷ others) h = absurd cc
 
-number_read : (old new : State) (rows : List Row) → IsNamedOldFile old.now → Shown number_query [] old new rows → rows ≡ (number old_number ∷ []) ∷ []
-number_read old new rows named h =
-    let file = named.file in
-    let db = overlay old.now.trees [] in
-    let desk = (old_tables old.now.trees).desk in
-    let read = reads_as number_query [] old new old_schema file.schema _ desk_is desk_plain desk_unlisted rows h in
-    only_answer desk_query db [] (last_table db 0 desk_row desk_id desk (file.stored.at Desk) (file.rising.at Desk) (at_end db)) (λ _. true) (λ x. refl) refl refl
-    (desk_short desk named.named) rows (read.answer Null)
-    ∙ desk_shown desk named.named
-
--- ---- the verdict on it
+number_read : {schema : Schema} (db : Database) → db.schema ≡ schema → DeskMeans schema → db.trees 0 ≡ map desk_row (old_tables db.trees).desk → AreRising (old_tables db.trees)
+    → IsTrue (is_old_desk (old_tables db.trees).desk) → (rows : List Row) → ShowsOf db number_query [] rows → number_shown rows ≡ Some (pos old_number)
+number_read db has means stored rising named rows h =
+    let trees = overlay db.trees [] in
+    let desk = (old_tables db.trees).desk in
+    let given : rows ≡ (number old_number ∷ []) ∷ [] =
+    only_answer desk_query trees [] (last_table trees 0 desk_row desk_id desk stored (rising.at DeskRows) (at_end trees)) (λ _. true) (λ x. refl) refl refl (desk_short desk named) rows
+    (answered means db has [] rows h)
+    ∙ desk_shown desk named in
+    ap number_shown given
 
 whole_here : is_whole old_schema ≡ true
 unfolding same_name
 whole_here = refl
 
-number_here : has_number old_schema ≡ true
+peer_whole_here : is_whole peer_schema ≡ true
 unfolding same_name
-number_here = refl
+peer_whole_here = refl
+
+pub exact_named : (db : Database) → IsOldFile db → IsTrue (is_old_desk (old_tables db.trees).desk) → IsNamedOldFile db
+exact_named db file named = record { whole = ap is_whole file.schema ∙ whole_here; named = number_read db file.schema desk_means (file.stored.at DeskRows) file.rising named }
+
+pub peer_named : (db : Database) → IsPeerFile db → IsTrue (is_old_desk (old_tables db.trees).desk) → IsNamedOldFile db
+peer_named db file named = record { whole = ap is_whole file.schema ∙ peer_whole_here; named = number_read db file.schema peer_desk_means (file.stored.at DeskRows) file.rising named }
+
+-- ---- the verdict on a file of schema 2
+
+numbered : (found : Option Table) → option_map_or (is_like (own_table Desk)) found false ≡ true → option_map_or (λ desk. has_column desk (codes "schema")) found false ≡ true
+numbered None h = h
+numbered (Some table) h = let columns = (and_parts _ _ h).0 in (and_parts _ _ (and_parts _ _ columns).1).0
+
+whole_numbered : (schema : Schema) → is_whole schema ≡ true → has_number schema ≡ true
+whole_numbered schema h = numbered (table_named schema (codes "desk")) (and_parts _ _ h).0
 
 pub ours_named : (s : State) → IsNamedOldFile s.now → has_number s.now.schema ≡ true
-ours_named s named = ap has_number named.file.schema ∙ number_here
+ours_named s named = whole_numbered s.now.schema named.whole
 
 pub ours_taken : (old new : State) (rows : List Row) → IsNamedOldFile old.now → Shown number_query [] old new rows → old_verdict old.now.schema rows ≡ Ok tt
-ours_taken old new rows named h =
-    ap₂ old_verdict named.file.schema (number_read old new rows named h) ∙ ap
-    (λ whole. shown_verdict whole (number_shown ((number old_number ∷ []) ∷ []))) whole_here
+ours_taken old new rows named h = ap₂ shown_verdict named.whole (named.named rows (shows_of number_query desk_read [] old new rows h))
 
 -- ---- which faults there are
 
@@ -155,4 +173,4 @@ any_ok (Err e) = tt
 
 -- a call that asked nothing, and gave no answer
 pub none_asked : {T E : Type 0} {Answer : Tables → T → Type 0} (e : E) (s : State) → ReadsOld {T = T} Answer s s (Err e)
-none_asked e s = record { passes = passes_none s; shows = λ _. tt; same = λ _ _. tt; answer = λ _ _. tt }
+none_asked e s = record { passes = passes_none s; shows = λ _. tt; same = λ _ _. tt; answer = λ _ _ _. tt }

@@ -5,8 +5,9 @@ use Rattle.sqlite.specs.State.{State, HasCleanDisk}
 use Rattle.lab_records_kept.specs.declared.labs.Lab.{Lab}
 use Rattle.lab_records_kept.specs.Bound.{IsBound}
 use Rattle.lab_records_kept.specs.Dual.{IsDual}
-use Rattle.lab_move_tables.specs.OldRows.{IsOldFile}
-use Rattle.lab_move_tables.specs.Reading.{ReadsOld, old_tables_of}
+use Rattle.lab_store_tables.specs.Rows.{Tables}
+use Rattle.lab_move_tables.specs.Reading.{ReadsOld}
+use Rattle.lab_move_tables.specs.Standing.{StandsFor}
 use Rattle.lab_move_rows.proofs.OldReaders.{may_and}
 use Rattle.lab_move_files.specs.Commits.{MakesAtOnce}
 use Rattle.lab_move_files.proofs.Commits.{makes_weaker}
@@ -37,32 +38,31 @@ abbrev pub PlacesFound : Option Lab → Database → Database → Type 0
 PlacesFound found was db = (lab : Lab) × (found ≡ Some lab) × IsSoundLab lab × Carries lab was db
 
 module _ {E : Type 0} (code : List ℕ) (found : Option Lab) {before after : State} (read : ReadsOld {E = E} (λ t it. IsLabOf t code it) before after (Ok found)) where
-  here : IsRead before after → IsLabOf (old_tables_of before) code found
-  here so = read.answer so.0 so.1
+  here : (t : Tables) → IsRead before after t → IsLabOf t code found
+  here t so = read.answer t so.0 so.1
 
   pub lab_reads : {A F : Type 0} (r : Result A F) → OnOk r (FoundSound found) → ReadsOld (λ t _. IsSoundIn t code) before after r
-  lab_reads r sound = may_and read (λ file is. go r sound is)
+  lab_reads r sound = may_and read (λ t file is. go t r sound is)
     where
-      go : {A F : Type 0} (end : Result A F) → OnOk end (FoundSound found) → IsLabOf (old_tables_of before) code found
-          → IfOk end (λ _. IsSoundIn (old_tables_of before) code)
-      go (Ok a) it is = (it.0, subst (IsLabOf (old_tables_of before) code) it.1 is, it.2)
-      go (Err e) it is = tt
+      go : (t : Tables) {A F : Type 0} (end : Result A F) → OnOk end (FoundSound found) → IsLabOf t code found → IfOk end (λ _. IsSoundIn t code)
+      go t (Ok a) it is = (it.0, subst (IsLabOf t code) it.1 is, it.2)
+      go t (Err e) it is = tt
 
   pub lab_carries : {A F : Type 0} (r : Result A F) {was now : State} → MakesAtOnce (PlacesFound found was.now) r was now
       → MakesAtOnce (CarriesFrom before after code was.now) r was now
   lab_carries r {was} {now} it =
       makes_weaker (PlacesFound found was.now) (CarriesFrom before after code was.now) r
-      (λ db one. (one.0, one.2, one.3, λ so. subst (IsLabOf (old_tables_of before) code) one.1 (here so))) it
+      (λ db one. (one.0, one.2, one.3, λ t so. subst (IsLabOf t code) one.1 (here t so))) it
 
   pub lab_blamed : (one : List ℕ) → (one ≡ code) × (lab : Lab) × (found ≡ Some lab) × ¬ (IsBound lab × IsDual lab)
-      → (one ≡ code) × (IsRead before after → IsUnsoundIn (old_tables_of before) code)
-  lab_blamed one it = (it.0, λ so. inr (it.1, subst (IsLabOf (old_tables_of before) code) it.2 (here so), it.3))
+      → (one ≡ code) × ((t : Tables) → IsRead before after t → IsUnsoundIn t code)
+  lab_blamed one it = (it.0, λ t so. inr (it.1, subst (IsLabOf t code) it.2 (here t so), it.3))
 
 -- where none was read
 pub unread_blamed : (code : List ℕ) (fault : WholeFault) (before after : State)
-    → (IsOldFile before.now → HasCleanDisk after → fault ≡ NotKept → IsUnkept (old_tables_of before) code)
-    → (one : List ℕ) → (one ≡ code) × (fault ≡ NotKept) → (one ≡ code) × (IsRead before after → IsUnsoundIn (old_tables_of before) code)
-unread_blamed code fault before after unkept one it = (it.0, λ so. inl (unkept so.0 so.1 it.1))
+    → ((t : Tables) → StandsFor before.now t → HasCleanDisk after → fault ≡ NotKept → IsUnkept t code)
+    → (one : List ℕ) → (one ≡ code) × (fault ≡ NotKept) → (one ≡ code) × ((t : Tables) → IsRead before after t → IsUnsoundIn t code)
+unread_blamed code fault before after unkept one it = (it.0, λ t so. inl (unkept t so.0 so.1 it.1))
 
 pub on_ok_so : {A E P : Type 0} (r : Result A E) → P → OnOk r P
 on_ok_so (Ok a) p = p

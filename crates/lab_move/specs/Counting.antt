@@ -3,15 +3,13 @@
 -- information"): each table of the new file has as many rows as that of the old one, whoever wrote
 -- it and whatever its rows say. One question asks how many there are; what it shows of a file is
 -- what SQL means by it.
-use Rattle.std.specs.Prelude.{◌≡◌, ℕ, ◌<◌, pos, min, codes, List, [], ◌∷◌, length, slice_get, option_and_then, Option, Ok}
+use Rattle.std.specs.Prelude.{◌≡◌, ℕ, ◌<◌, pos, min, codes, List, [], ◌∷◌, length, slice_get, option_and_then, Option}
 use Rattle.sqlite_value.specs.declared.value.Value.{Value}
 use Rattle.sqlite_value.specs.declared.value.Value.TheVariants.{Int}
 use Rattle.sqlite_value.specs.Order.{Row}
-use Rattle.sqlite_resolve.specs.declared.compiled.Compiled.{Compiled}
-use Rattle.sqlite.specs.Clock.{timed}
-use Rattle.sqlite.specs.Effect.{Database, Reads}
-use Rattle.sqlite.specs.Listing.{understood, reads_listing, IsSourceOf}
+use Rattle.sqlite.specs.Effect.{Database}
 use Rattle.lab_store_tables.specs.Rows.{Tables}
+use Rattle.lab_move_tables.specs.Showing.{ShowsOf}
 
 -- ---- the question
 
@@ -21,15 +19,6 @@ counts_text = codes "SELECT (SELECT count(*) FROM labs), (SELECT count(*) FROM p
 -- how many tables it asks about: each but `desk`, whose one row names the schema
 abbrev pub counted_tables : ℕ
 counted_tables = 11
-
--- what a question without parameters shows of a file, as it is read there
-pub record ShowsOf (db : Database) (sql : List ℕ) (rows : List Row) : Type 0 where
-  pub read : Compiled
-  pub is : understood db.schema sql ≡ Ok read
-  pub source : Database
-  pub from : IsSourceOf (reads_listing db.schema sql) db source
-  pub moment : ℕ
-  pub shown : Reads read.command source (timed [] read.formats moment) rows
 
 -- what stands at a place of the first row
 abbrev pub cell : List Row → ℕ → Option Value
@@ -68,5 +57,5 @@ AreCounts rows t = AreAlike rows (counts_row t ∷ [])
 -- each table of the file has as many rows as that of these tables
 pub record HasAsMany (db : Database) (t : Tables) : Type 0 where
   pub rows : List Row
-  pub shown : ShowsOf db counts_text rows
+  pub shown : ShowsOf db counts_text [] rows
   pub same : AreCounts rows t

@@ -26,8 +26,7 @@ use Rattle.lab_store_files.specs.declared.faults.FileFault.TheVariants.{NotADesk
 use Rattle.lab_store_files.specs.Faults.{FailedInStore}
 use Rattle.lab_store_files.specs.Schemas.{is_taken}
 use Rattle.lab_store_files.specs.Verdicts.{Answers}
-use Rattle.lab_move_tables.specs.OldRows.{IsOldFile}
-use Rattle.lab_move_tables.specs.Reading.{old_tables_of}
+use Rattle.lab_move_tables.specs.Standing.{StandsFor}
 use Rattle.lab_move_files.specs.Unfinished.{IsBeingFilled}
 use Rattle.lab_move_writing.specs.Carrying.{Carries}
 use Rattle.lab_move_labs.specs.Laboratories.{codes_of, IsLabOf, IsUnkept}
@@ -72,9 +71,10 @@ meaning_among done was code =
 abbrev pub AreAll : (Lab → Type 0) → Meaning → Type 0
 AreAll Holds held = (code : List ℕ) → WhereThere Holds (held code)
 
--- what was read of the old file, from one moment to a later one, says what its tables mean
-abbrev pub IsRead : State → State → Type 0
-IsRead before after = IsOldFile before.now × HasCleanDisk after
+-- what was read of the old file, from one moment to a later one, says what these tables mean, for
+-- which the file stands
+abbrev pub IsRead : State → State → Tables → Type 0
+IsRead before after t = StandsFor before.now t × HasCleanDisk after
 
 -- no laboratory is in it yet
 pub record IsBegun (db : Database) : Type 0 where
@@ -86,7 +86,7 @@ pub record HasCarried (IsFile : Database → Type 0) (before after : State)
     (among : Meaning → Meaning) (db : Database) : Type 0 where
   pub file : IsFile db
   pub sound : AreAll IsSoundLab (meaning (tables_in db.trees))
-  pub same : IsRead before after → SameMeaning (among (meaning (old_tables_of before)))
+  pub same : (t : Tables) → IsRead before after t → SameMeaning (among (meaning t))
       (meaning (tables_in db.trees))
 
 -- it is being filled, and has those of these codes
@@ -105,7 +105,7 @@ IsWhole before after = HasCarried IsKept before after (λ held. held)
 abbrev pub CarriesFrom : State → State → List ℕ → Database → Database → Type 0
 CarriesFrom before after code was db =
     (lab : Lab) × IsSoundLab lab × Carries lab was db
-    × (IsRead before after → IsLabOf (old_tables_of before) code (Some lab))
+    × ((t : Tables) → IsRead before after t → IsLabOf t code (Some lab))
 
 -- ---- a call that commits more than once, however it ends
 
@@ -145,9 +145,9 @@ AreCounted codes t count = (length codes ≡ count) × All (IsSoundIn t) codes
 
 -- ---- what a move answers
 
--- the old file has so many laboratories, each with well-kept rows, and the new one has each as the
--- old one means it, and no other: records, versions with their text, digest and signatures,
--- persons, sessions, forms and the trail
+-- the tables for which the old file stands have so many laboratories, each with well-kept rows, and
+-- the new one has each as those mean it, and no other: records, versions with their text, digest
+-- and signatures, persons, sessions, forms and the trail
 pub record IsMoved (t new : Tables) (many : ℕ) : Type 0 where
   pub count : length t.labs ≡ many
   pub sound : All (IsSoundIn t) (codes_of t)
@@ -172,13 +172,12 @@ Blames Holds (NotSound lab) = Holds lab
 -- the laboratory is the first of these that isn't sound
 abbrev pub BlamesFirst : State → State → List (List ℕ) → MoveFault → Type 0
 BlamesFirst before after codes =
-    Blames (λ lab. IsRead before after → IsFirstUnsound (old_tables_of before) codes lab)
+    Blames (λ lab. (t : Tables) → IsRead before after t → IsFirstUnsound t codes lab)
 
 -- or of all that the old file has
 abbrev pub BlamesFirstOfAll : State → State → MoveFault → Type 0
 BlamesFirstOfAll before after =
-    Blames (λ lab. IsRead before after
-    → IsFirstUnsound (old_tables_of before) (codes_of (old_tables_of before)) lab)
+    Blames (λ lab. (t : Tables) → IsRead before after t → IsFirstUnsound t (codes_of t) lab)
 
 -- by the old file before and after the call, and the new one before it
 abbrev pub HasCause : State → State → State → MoveFault → Type 0
@@ -192,8 +191,7 @@ HasCause before after fresh (File Storage) = Unit {0}
 HasCause before after fresh (File NotEmpty) = IsTrue (is_taken fresh.now.schema)
 HasCause before after fresh (File Memory) = Unit {0}
 HasCause before after fresh (NotSound lab) =
-    IsRead before after
-    → IsFirstUnsound (old_tables_of before) (codes_of (old_tables_of before)) lab
+    (t : Tables) → IsRead before after t → IsFirstUnsound t (codes_of t) lab
 
 -- ---- what it leaves of a new file that was empty
 

@@ -1,7 +1,7 @@
 -- What a file that is to be moved is: one of schema 2, of an older or a newer one, or none in which
 -- laboratories are kept (21 CFR 11.10(a), "the ability to discern invalid or altered records"). The
 -- one row of the table `desk` says which schema it has.
-use Rattle.std.specs.Prelude.{◌≡◌, ◌⊎◌, ℕ, ℤ, pos, int_lt, unsigned_abs, Bool, true, false, ◌==◌, ◌&&◌, if◌then◌else◌, IsTrue, List, [], ◌∷◌, Option, Some, None, Result, Ok, Err}
+use Rattle.std.specs.Prelude.{◌≡◌, ◌⊎◌, ℕ, ℤ, pos, int_lt, unsigned_abs, Bool, true, false, ◌==◌, ◌&&◌, if◌then◌else◌, List, [], ◌∷◌, Option, Some, None, Result, Ok, Err}
 use Rattle.std.specs.List.{list_all}
 use Rattle.std.specs.Option.{option_map_or}
 use Rattle.sqlite_value.specs.Order.{Row}
@@ -18,7 +18,7 @@ use Rattle.lab_store_files.specs.Schemas.{table_named, has_columns, has_number}
 use Rattle.lab_store_files.specs.Verdicts.{number_query, number_shown}
 use Rattle.lab_move.specs.Arrows.{has_id, has_arrows}
 use Rattle.lab_move_tables.specs.OldSchema.{persons, forms, versions}
-use Rattle.lab_move_tables.specs.OldRows.{IsOldFile, old_tables}
+use Rattle.lab_move_tables.specs.Showing.{ShowsOf}
 use Rattle.lab_move.specs.declared.old_tables.OldTable.{OldTable}
 use Rattle.lab_move.specs.declared.old_tables.OldTable.TheVariants.{Desk, Labs, Persons, Sessions, Forms, Fields, Choices, Records, Versions, Entries, Signatures, Trail}
 
@@ -97,15 +97,17 @@ OldAnswers old new answer = IsOldVerdict old new answer ⊎ FailedInStore answer
 
 -- ---- a file of schema 2
 
--- the one row of `desk` names the schema
+-- its tables are there, however they are written, and the one row of `desk` names the schema
+pub record IsNamedOldFile (db : Database) : Type 0 where
+  pub whole : is_whole db.schema ≡ true
+  pub named : (rows : List Row) → ShowsOf db number_query [] rows
+      → number_shown rows ≡ Some (pos old_number)
+
+-- as its rows say it, where these are the ones of `desk`
 abbrev pub is_old_desk : List DeskRow → Bool
 is_old_desk [] = false
 is_old_desk (one ∷ []) = one.number == old_number
 is_old_desk (one ∷ other ∷ others) = false
-
-pub record IsNamedOldFile (db : Database) : Type 0 where
-  pub file : IsOldFile db
-  pub named : IsTrue (is_old_desk (old_tables db.trees).desk)
 
 -- ---- why it was refused
 

@@ -8,7 +8,8 @@ ghost use Rattle.lab_records_kept.specs.Bound.{IsBound};
 ghost use Rattle.lab_records_kept.specs.Dual.{IsDual};
 ghost use Rattle.sqlite.specs.State.{HasCleanDisk};
 ghost use Rattle.lab_store_tables.specs.Ready.{IsAtRest, IsMadeBy, tables_of};
-ghost use Rattle.lab_move_tables.specs.Reading.{ReadsOld, old_tables_of};
+ghost use Rattle.lab_store_tables.specs.Rows.{Tables};
+ghost use Rattle.lab_move_tables.specs.Reading.{ReadsOld};
 ghost use Rattle.lab_move_files.specs.Commits.{MakesAtOnce};
 ghost use Rattle.lab_move_files.specs.Unfinished.{Finishes, IsBeingFilled};
 ghost use Rattle.lab_move_laws.specs.Namings.{NamesSchema};
@@ -118,8 +119,8 @@ fn move_lab<D: Readable, T: Alter, P: MoveProgress>(
     ensures carries { MakesAtOnce (CarriesFrom (D.state old.old) (D.state old.new) code.now
         (state T.Store new.old).now) result (state T.Store new.old) (state T.Store new.new) }
     ensures fault { IfErr result (Blames (λ one. (one ≡ code.now)
-        × (IsRead (D.state old.old) (D.state old.new) →
-        IsUnsoundIn (old_tables_of (D.state old.old)) code.now))) }
+        × ((t : Tables) → IsRead (D.state old.old) (D.state old.new) t →
+        IsUnsoundIn t code.now))) }
 {
     match whole(alloc, old, code) {
         Ok(found) => place_found(alloc, new, code, found, progress),

@@ -22,5 +22,5 @@ pub use lab_move_sound::{is_sound, is_within};
 pub use lab_move_writing::{MoveProgress, Unwatched, place_lab};
 pub use lab_records_kept::Lab;
 pub use lab_store_files::FileFault;
-pub use moving::{an_unfinished_file_is_refused, migrate};
+pub use moving::{an_exact_file_is_named, an_unfinished_file_is_refused, migrate};
 pub use opening::{OldFile, open_old};

@@ -7,14 +7,18 @@ ghost use Rattle.sqlite.specs.State.{HasCleanDisk};
 ghost use Rattle.lab_store_tables.specs.Ready.{IsAtRest, tables_of};
 ghost use Rattle.lab_store_files.specs.NewFiles.{IsBlank};
 ghost use Rattle.lab_store_files.specs.Schemas.{is_taken};
-ghost use Rattle.lab_move_tables.specs.OldRows.{IsOldFile};
-ghost use Rattle.lab_move_tables.specs.Reading.{ReadsOld, old_tables_of};
+ghost use Rattle.lab_store_tables.specs.Rows.{Tables};
+ghost use Rattle.lab_move_tables.specs.OldRows.{IsOldFile, old_tables};
+ghost use Rattle.lab_move_tables.specs.PeerFiles.{IsPeerFile};
+ghost use Rattle.lab_move_tables.specs.Reading.{ReadsOld};
+ghost use Rattle.lab_move_tables.specs.Standing.{StandsFor};
 ghost use Rattle.lab_move_files.specs.Commits.{MakesAtOnce};
 ghost use Rattle.lab_move_files.specs.Unfinished.{Begins, IsBeingFilled};
 ghost use Rattle.lab_move.specs.declared.faults.MoveFault.TheVariants.{File};
 ghost use Rattle.lab_move.specs.Counting.{HasAsMany};
 ghost use Rattle.lab_move.specs.Faults.{is_early};
 ghost use Rattle.lab_move.specs.Moving.{HasCause, IsMoved, IsRefused, IsStart, LeavesUnfinished};
+ghost use Rattle.lab_move.specs.OldFiles.{IsNamedOldFile, is_old_desk};
 
 use crate::faults::MoveFault;
 use crate::filling::fill;
@@ -30,6 +34,15 @@ use std::alloc::Global;
 pub fn an_unfinished_file_is_refused<S: Alter>()
     ensures filling { (db : Database) → IsBeingFilled db → IsRefused S.Store db }
     ensures blank { (db : Database) → IsBlank db → IsRefused S.Store db }
+{}
+
+/// Law: a file whose tables are, text for text, those of schema 2, in our style or in that of
+/// another program, and whose one row of `desk` names the schema, is never refused as another one.
+pub fn an_exact_file_is_named()
+    ensures exact { (db : Database) → IsOldFile db →
+        IsTrue (is_old_desk (old_tables db.trees).desk) → IsNamedOldFile db }
+    ensures peer { (db : Database) → IsPeerFile db →
+        IsTrue (is_old_desk (old_tables db.trees).desk) → IsNamedOldFile db }
 {}
 
 // Looks at the old file, and makes the tables of the new one.
@@ -71,11 +84,12 @@ pub fn migrate<S: Alter, T: Alter, P: MoveProgress>(
     requires at_rest { IsAtRest (state T.Store new.old) }
     // Where it answers a number, the old file has so many laboratories, and the new one has each as
     // the old one means it, and no other. So each version keeps its text, its digest and its
-    // signatures:
+    // signatures. What the old file means, the tables mean for which it stands, however its own are
+    // written:
     ensures moved { IsBlank (state T.Store new.old).now → HasCleanDisk (state T.Store new.new) →
-        IsOldFile (state S.Store old.old.conn).now → HasCleanDisk (state S.Store old.new.conn) →
-        IfOk result (IsMoved (old_tables_of (state S.Store old.old.conn))
-        (tables_of (state T.Store new.new))) }
+        (t : Tables) → StandsFor (state S.Store old.old.conn).now t →
+        HasCleanDisk (state S.Store old.new.conn) →
+        IfOk result (IsMoved t (tables_of (state T.Store new.new))) }
     // No row is left behind, whoever wrote the old file and whatever its rows say: each of its tables
     // has as many as that of the new one:
     ensures counted { IsBlank (state T.Store new.old).now → HasCleanDisk (state T.Store new.new) →

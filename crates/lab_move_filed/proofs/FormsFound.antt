@@ -3,7 +3,6 @@ use Rattle.std.proofs.Common.{◌≡◌, ◌≤◌, ℕ, ℤ, Bool, true, false,
 use Rattle.std.specs.Prelude.{if◌then◌else◌}
 use Rattle.std.specs.List.{list_all}
 use Rattle.std.specs.Cmp.{IsTotalOrder}
-use Rattle.sqlite_trees.specs.Tree.{Trees}
 use Rattle.sqlite_keyed.proofs.ListLemmas.{map-map, map_same}
 use Rattle.lab_forms.specs.declared.forms.Field.{Field}
 use Rattle.lab_records_kept.specs.declared.records.FormVersion.{FormVersion}
@@ -13,10 +12,10 @@ use Rattle.lab_store_tables.specs.Meaning.{names_of, field_in, fields_of, form_i
 use Rattle.lab_store_columns.proofs.Found.{flag_back, text_back, number_back}
 use Rattle.lab_store_read_forms.specs.KindsShown.{kind_cells, name_read}
 use Rattle.lab_store_read_forms.proofs.KindsFound.{kind_named}
-use Rattle.lab_move_tables.specs.OldRows.{old_tables}
+use Rattle.lab_move_tables.specs.Standing.{AreLifted}
 use Rattle.lab_move_tables.specs.Owned.{own_forms, own_fields, own_choices}
 use Rattle.lab_move_tables.specs.KeptLabs.{run, next_of, run_by_code, are_kept_names, is_kept_field, are_kept_fields, is_kept_form, are_kept_forms}
-use Rattle.lab_move_rows.specs.Shown.{form_shown, forms_shown, field_shown, fields_shown, choice_shown, choices_shown}
+use Rattle.lab_move_tables.specs.Shown.{form_shown, forms_shown, field_shown, fields_shown, choice_shown, choices_shown}
 use Rattle.lab_move_rows.specs.Checks.{are_numbered}
 use Rattle.lab_move_filed.specs.declared.heads.FieldHead.{FieldHead}
 use Rattle.lab_move_filed.specs.declared.heads.FormHead.{FormHead}
@@ -25,7 +24,7 @@ use Rattle.lab_move_people.specs.Kept.{where_kept}
 use Rattle.lab_move_filed.specs.Forms.{field_read, field_head, field_by, is_kept_field_head, field_heads_tried, form_read, form_head, form_heads_of, form_at_by, is_kept_form_head, forms_run, form_at_in, forms_at_of, form_of}
 use Rattle.lab_move_people.proofs.Conditions.{unkept, kept_test, kept_is, first_fails}
 use Rattle.lab_move_people.proofs.Numbered.{numbered_is, list_all-map}
-use Rattle.lab_move_people.proofs.OldOnes.{old_forms, all_same}
+use Rattle.lab_move_rows.proofs.OldOnes.{old_forms, all_same}
 
 -- ---- names
 
@@ -93,15 +92,14 @@ pub forms_tried : (t : Tables) (lab : ℤ) (heads : List FormHead) → heads ≡
     → forms_run None heads ≡ run_by_code (λ (form : FormRow). form.code) (λ (form : FormRow). form.version) None (own_forms t lab)
 forms_tried t lab heads is = ap (forms_run None) is ∙ runs None (own_forms t lab)
 
-pub forms_done : (trees : Trees) (lab : ℤ) (heads : List FormHead) (found : Option (List FormAt)) → heads ≡ form_heads_of (old_tables trees) lab → forms_run None heads ≡ true
-    → found ≡ where_kept (list_all (is_kept_form_head (old_tables trees)) heads) (map (form_at_by (old_tables trees)) heads)
-    → found ≡ where_kept (are_kept_forms (old_tables trees) lab) (forms_at_of (old_tables trees) lab)
-forms_done trees lab heads found is passes so =
-    let t = old_tables trees in
+pub forms_done : (t : Tables) → AreLifted t → (lab : ℤ) (heads : List FormHead) (found : Option (List FormAt)) → heads ≡ form_heads_of t lab → forms_run None heads ≡ true
+    → found ≡ where_kept (list_all (is_kept_form_head t) heads) (map (form_at_by t) heads)
+    → found ≡ where_kept (are_kept_forms t lab) (forms_at_of t lab)
+forms_done t of lab heads found is passes so =
     let own = own_forms t lab in
     so ∙ ap (λ l. where_kept (list_all (is_kept_form_head t) l) (map (form_at_by t) l)) is
     ∙ ap₂ where_kept (list_all-map (is_kept_form_head t) form_head own)
-    (map-map (form_at_by t) form_head own ∙ all_same (λ one. one.approval ≡ false) (λ one. form_at_by t (form_head one)) (form_at_in t) (form_built t) own (old_forms trees lab))
+    (map-map (form_at_by t) form_head own ∙ all_same (λ one. one.approval ≡ false) (λ one. form_at_by t (form_head one)) (form_at_in t) (form_built t) own (old_forms t of lab))
     ∙ ap (λ b. where_kept (b && list_all (is_kept_form t) own) (forms_at_of t lab)) (sym passes ∙ forms_tried t lab heads is)
 
 pub forms_fail : (t : Tables) (lab : ℤ) (heads : List FormHead) → heads ≡ form_heads_of t lab → forms_run None heads ≡ false → None ≡ where_kept (are_kept_forms t lab) (forms_at_of t lab)

@@ -1,2 +1,3 @@
+pub mod SaidRows
 pub mod FormsFound
 pub mod RecordsFound

@@ -6,7 +6,6 @@ use Rattle.std.proofs.lemmas.Bool.{and_parts}
 use Rattle.std.proofs.lemmas.Bool.Decides.{nat_tests}
 use Rattle.std.proofs.lemmas.List.{length-map}
 use Rattle.sqlite_value.specs.Order.{Row, column}
-use Rattle.sqlite_trees.specs.Tree.{Trees}
 use Rattle.sqlite_keyed.specs.Keyed.{IsKeyedBy, get_by}
 use Rattle.sqlite_keyed.proofs.ListLemmas.{slice_get-filter, map-map, map_same, filter_same, all_from_test}
 use Rattle.sqlite_keyed.proofs.RuleLemmas.{at_most_one}
@@ -25,19 +24,21 @@ use Rattle.lab_store_read_records.specs.declared.heads.RecordHead.{RecordHead}
 use Rattle.lab_store_read_records.specs.Heads.{record_head}
 use Rattle.lab_store_read_records.specs.Shown.{record_read}
 use Rattle.lab_store_read_forms.specs.Wholes.{record_with}
-use Rattle.lab_move_tables.specs.OldRows.{old_tables}
+use Rattle.lab_move_tables.specs.Standing.{AreLifted}
 use Rattle.lab_move_tables.specs.Owned.{own_forms, own_records, own_versions, own_entries, own_signatures, lab_of}
 use Rattle.lab_move_tables.specs.KeptLabs.{run, is_theirs, are_kept_entries, are_kept_signatures, is_kept_version, are_so_many, are_kept_versions, is_kept_record, are_so_many_records, are_kept_records}
-use Rattle.lab_move_rows.specs.Shown.{record_shown, records_shown, version_shown, versions_shown, entry_shown, entries_shown, entry_place_shown, entry_places_shown, signature_shown, signatures_shown, signature_place_shown, signature_places_shown}
+use Rattle.lab_move_tables.specs.Shown.{record_shown, records_shown, version_shown, versions_shown, entry_shown, entries_shown, entry_place_shown, entry_places_shown, signature_shown, signatures_shown, signature_place_shown, signature_places_shown}
 use Rattle.lab_move_rows.specs.Checks.{are_owned}
+use Rattle.lab_move_tables.specs.Showing.{said_at}
 use Rattle.lab_move_filed.specs.declared.heads.FormAt.{FormAt}
 use Rattle.lab_move_filed.specs.declared.heads.VersionHead.{VersionHead}
 use Rattle.lab_move_people.specs.Kept.{where_kept, are_counted}
 use Rattle.lab_move_filed.specs.Forms.{form_of, form_at_in, forms_at_of, form_among}
 use Rattle.lab_move_filed.specs.Records.{entry_read, signature_read, version_read, version_head, leaf_with, record_if, leaf_by, is_kept_leaf, version_heads_tried, named_form, is_kept_record_head, record_by, record_heads_tried, are_kept_records_by, records_by}
+use Rattle.lab_move_filed.proofs.SaidRows.{entry_said, signature_said, version_said, counted_said, owned_said}
 use Rattle.lab_move_people.proofs.Conditions.{unkept, kept_test, kept_is, first_fails, same_where}
 use Rattle.lab_move_people.proofs.Numbered.{counted_is, owned_is, list_all-map}
-use Rattle.lab_move_people.proofs.OldOnes.{IsOldVersion, old_versions, old_entries, old_signatures, all_same}
+use Rattle.lab_move_rows.proofs.OldOnes.{IsOldVersion, old_versions, old_entries, old_signatures, all_same}
 
 -- ---- entries and signatures
 
@@ -51,44 +52,59 @@ counted_by show place at number is xs =
     counted_is show at (length (map place xs)) number is xs
     ∙ ap (λ b. b && run number xs) (ap (λ n. length xs == n) (length-map xs place) ∙ same_number (length xs))
 
-pub entries_done : (trees : Trees) (lab version : ℤ) → let t = old_tables trees in
-    where_kept (are_counted 6 (length (entry_places_shown t version)) (entries_shown t version) && are_owned 7 lab (entries_shown t version)) (map entry_read (entries_shown t version))
+entries_done : (t : Tables) → AreLifted t → (lab version : ℤ)
+    → where_kept (are_counted 6 (length (entry_places_shown t version)) (entries_shown t version) && are_owned 7 lab (entries_shown t version)) (map entry_read (entries_shown t version))
     ≡ where_kept (are_kept_entries t lab version) (entries_of t version)
-entries_done trees lab version =
-    let t = old_tables trees in
+entries_done t of lab version =
     let own = own_entries t version in
     ap₂ where_kept (ap₂ ◌&&◌ (counted_by (entry_shown t) entry_place_shown 6 (λ (one : EntryRow). one.place) (λ one. refl) own)
     (owned_is (entry_shown t) 7 lab (λ (one : EntryRow). lab_of t one.person) (λ one. refl) own))
     (map-map entry_read (entry_shown t) own
-    ∙ all_same _ (λ one. entry_read (entry_shown t one)) (entry_in t) (λ one old. λ i. record (entry_in t one) { reason = old i }) own (old_entries trees version))
+    ∙ all_same _ (λ one. entry_read (entry_shown t one)) (entry_in t) (λ one old. λ i. record (entry_in t one) { reason = old i }) own (old_entries t of version))
 
-pub signatures_done : (trees : Trees) (lab version : ℤ) → let t = old_tables trees in
-    where_kept (are_counted 7 (length (signature_places_shown t version)) (signatures_shown t version) && are_owned 8 lab (signatures_shown t version)) (map signature_read (signatures_shown t version))
+signatures_done : (t : Tables) → AreLifted t → (lab version : ℤ)
+    → where_kept (are_counted 7 (length (signature_places_shown t version)) (signatures_shown t version) && are_owned 8 lab (signatures_shown t version)) (map signature_read (signatures_shown t version))
     ≡ where_kept (are_kept_signatures t lab version) (signatures_of t version)
-signatures_done trees lab version =
-    let t = old_tables trees in
+signatures_done t of lab version =
     let own = own_signatures t version in
     ap₂ where_kept (ap₂ ◌&&◌ (counted_by (signature_shown t) signature_place_shown 7 (λ (one : SignatureRow). one.place) (λ one. refl) own)
     (owned_is (signature_shown t) 8 lab (λ (one : SignatureRow). lab_of t one.person) (λ one. refl) own))
     (map-map signature_read (signature_shown t) own
-    ∙ all_same _ (λ one. signature_read (signature_shown t one)) (signature_in t) (λ one old. λ i. record (signature_in t one) { meaning = meaning_in one.meaning (old i) }) own (old_signatures trees version))
+    ∙ all_same _ (λ one. signature_read (signature_shown t one)) (signature_in t) (λ one old. λ i. record (signature_in t one) { meaning = meaning_in one.meaning (old i) }) own (old_signatures t of version))
+
+-- as the rows of a file show them, with NULL or an empty text for no reason
+pub entries_shown_so : (t : Tables) → AreLifted t → (lab version : ℤ) (rows places : List Row) → map (said_at 5) rows ≡ entries_shown t version → places ≡ entry_places_shown t version
+    → where_kept (are_counted 6 (length places) rows && are_owned 7 lab rows) (map entry_read rows) ≡ where_kept (are_kept_entries t lab version) (entries_of t version)
+entries_shown_so t of lab version rows places shown placed =
+    sym (ap₂ where_kept (ap₂ ◌&&◌ (counted_said 5 6 (λ e. cc) (length places) rows) (owned_said 5 7 (λ e. cc) lab rows)) (map-map entry_read (said_at 5) rows ∙ map_same _ _ entry_said rows))
+    ∙ ap₂ (λ l n. where_kept (are_counted 6 n l && are_owned 7 lab l) (map entry_read l)) shown (ap length placed) ∙ entries_done t of lab version
+
+pub signatures_shown_so : (t : Tables) → AreLifted t → (lab version : ℤ) (rows places : List Row) → map (said_at 3) rows ≡ signatures_shown t version → places ≡ signature_places_shown t version
+    → where_kept (are_counted 7 (length places) rows && are_owned 8 lab rows) (map signature_read rows) ≡ where_kept (are_kept_signatures t lab version) (signatures_of t version)
+signatures_shown_so t of lab version rows places shown placed =
+    sym (ap₂ where_kept (ap₂ ◌&&◌ (counted_said 3 7 (λ e. cc) (length places) rows) (owned_said 3 8 (λ e. cc) lab rows)) (map-map signature_read (said_at 3) rows ∙ map_same _ _ signature_said rows))
+    ∙ ap₂ (λ l n. where_kept (are_counted 7 n l && are_owned 8 lab l) (map signature_read l)) shown (ap length placed) ∙ signatures_done t of lab version
 
 -- ---- versions
 
-pub versions_found : (trees : Trees) (kept : ℤ) (count : ℕ) → let t = old_tables trees in
-    where_kept (are_counted 1 count (versions_shown t kept)) (map version_read (versions_shown t kept)) ≡ version_heads_tried t kept count
-versions_found trees kept count =
-    let t = old_tables trees in
+versions_found : (t : Tables) → AreLifted t → (kept : ℤ) (count : ℕ)
+    → where_kept (are_counted 1 count (versions_shown t kept)) (map version_read (versions_shown t kept)) ≡ version_heads_tried t kept count
+versions_found t of kept count =
     let own = own_versions t kept in
     ap₂ where_kept (counted_is (version_shown t) 1 count (λ (one : VersionRow). one.number) (λ one. refl) own)
     (map-map version_read (version_shown t) own
-    ∙ all_same IsOldVersion (λ one. version_read (version_shown t one)) (version_head t) (λ one old. λ i. record (version_head t one) { reason = old.reason i }) own (old_versions trees kept))
+    ∙ all_same IsOldVersion (λ one. version_read (version_shown t one)) (version_head t) (λ one old. λ i. record (version_head t one) { reason = old.reason i }) own (old_versions t of kept))
 
-pub leaves_done : (trees : Trees) (lab kept : ℤ) (count : ℕ) (heads : List VersionHead) (found : Option (List Leaf)) → let t = old_tables trees in
-    Some heads ≡ version_heads_tried t kept count → found ≡ where_kept (list_all (is_kept_leaf t lab) heads) (map (leaf_by t) heads)
+pub versions_shown_so : (t : Tables) → AreLifted t → (kept : ℤ) (count : ℕ) (rows : List Row) → map (said_at 4) rows ≡ versions_shown t kept
+    → where_kept (are_counted 1 count rows) (map version_read rows) ≡ version_heads_tried t kept count
+versions_shown_so t of kept count rows shown =
+    sym (ap₂ where_kept (counted_said 4 1 (λ e. cc) count rows) (map-map version_read (said_at 4) rows ∙ map_same _ _ version_said rows))
+    ∙ ap (λ l. where_kept (are_counted 1 count l) (map version_read l)) shown ∙ versions_found t of kept count
+
+pub leaves_done : (t : Tables) → AreLifted t → (lab kept : ℤ) (count : ℕ) (heads : List VersionHead) (found : Option (List Leaf))
+    → Some heads ≡ version_heads_tried t kept count → found ≡ where_kept (list_all (is_kept_leaf t lab) heads) (map (leaf_by t) heads)
     → found ≡ where_kept (are_kept_versions t lab kept count) (leaves_of t kept)
-leaves_done trees lab kept count heads found is so =
-    let t = old_tables trees in
+leaves_done t of lab kept count heads found is so =
     let own = own_versions t kept in
     let many = are_so_many t kept count in
     let passes : many ≡ true = kept_test many (map (version_head t) own) heads is in
@@ -96,7 +112,7 @@ leaves_done trees lab kept count heads found is so =
     so ∙ ap (λ l. where_kept (list_all (is_kept_leaf t lab) l) (map (leaf_by t) l)) same
     ∙ ap₂ where_kept (list_all-map (is_kept_leaf t lab) (version_head t) own)
     (map-map (leaf_by t) (version_head t) own
-    ∙ all_same IsOldVersion (λ one. leaf_by t (version_head t one)) (leaf_in t) (λ one old. λ i. record (leaf_in t one) { format = sym old.format i }) own (old_versions trees kept))
+    ∙ all_same IsOldVersion (λ one. leaf_by t (version_head t one)) (leaf_in t) (λ one old. λ i. record (leaf_in t one) { format = sym old.format i }) own (old_versions t of kept))
     ∙ ap (λ b. where_kept (b && list_all (is_kept_version t lab) own) (leaves_of t kept)) (sym passes)
 
 pub leaves_fail : (t : Tables) (lab kept : ℤ) (count : ℕ) → None ≡ version_heads_tried t kept count → None ≡ where_kept (are_kept_versions t lab kept count) (leaves_of t kept)

@@ -16,8 +16,8 @@ use Rattle.lab_store_tables.specs.Meaning.{has_code, lab_in, persons_of, session
 use Rattle.lab_store_read_records.specs.declared.heads.LabHead.{LabHead}
 use Rattle.lab_store_read_records.specs.Heads.{lab_head}
 use Rattle.lab_move_tables.specs.KeptLabs.{are_kept_persons, are_kept_sessions, are_kept_forms, are_kept_records, is_kept_trail, is_kept_lab}
-use Rattle.lab_move_tables.specs.OldRows.{IsOldFile}
-use Rattle.lab_move_tables.specs.Reading.{ReadsOld, old_tables_of}
+use Rattle.lab_move_tables.specs.Reading.{ReadsOld}
+use Rattle.lab_move_tables.specs.Standing.{StandsFor}
 use Rattle.lab_move_rows.proofs.OldReaders.{may_both}
 use Rattle.lab_move_people.specs.Kept.{where_kept}
 use Rattle.lab_move_filed.specs.declared.heads.FormAt.{FormAt}
@@ -102,13 +102,13 @@ not_told P (Err e) fault failed = λ told. absurd (told_apart fault (sym failed 
 -- two answers, one after the other
 pub both_read : {A B E F : Type 0} {Was : Tables → A → Type 0} {Is : Tables → B → Type 0} {old mid new : State} {a : A} {b : B}
     → ReadsOld {E = E} Was old mid (Ok a) → ReadsOld {E = F} Is mid new (Ok b) → ReadsOld {T = Unit {0}} {E = ⊥} (λ t _. Was t a × Is t b) old new (Ok tt)
-both_read first next = may_both first next (λ file was is. (was, is))
+both_read first next = may_both first next (λ t file was is. (was, is))
 
 -- what they come to together
 pub told_both : {A B E F P : Type 0} {Was : Tables → A → Type 0} {Is : Tables → B → Type 0} {old mid new : State} {a : A} {b : B}
-    → ReadsOld {E = E} Was old mid (Ok a) → ReadsOld {E = F} Is mid new (Ok b) → IsOldFile old.now → HasCleanDisk new
-    → (Was (old_tables_of old) a → Is (old_tables_of old) b → P) → P
-told_both first next file clean f = let both = (both_read first next).answer file clean in f both.0 both.1
+    → ReadsOld {E = E} Was old mid (Ok a) → ReadsOld {E = F} Is mid new (Ok b) → (t : Tables) → StandsFor old.now t → HasCleanDisk new
+    → (Was t a → Is t b → P) → P
+told_both first next t file clean f = let both = (both_read first next).answer t file clean in f both.0 both.1
 
 -- there is one
 module _ (t : Tables) (code : List ℕ) (head : LabHead) (is : Some head ≡ head_of t code) where

@@ -14,7 +14,7 @@ use Rattle.lab_store_read_records.specs.declared.heads.LabHead.{LabHead}
 use Rattle.lab_store_read_records.specs.Heads.{lab_head}
 use Rattle.lab_store_read_records.specs.Laboratories.{lab_by as lab_by_head}
 use Rattle.lab_move_tables.specs.KeptLabs.{are_kept_persons, are_kept_sessions, are_kept_forms, are_kept_records, is_kept_trail, is_kept_lab}
-use Rattle.lab_move_rows.specs.Shown.{by_lab}
+use Rattle.lab_move_tables.specs.Shown.{by_lab}
 use Rattle.lab_move_people.specs.Kept.{where_kept}
 use Rattle.lab_move_filed.specs.declared.heads.FormAt.{FormAt}
 use Rattle.lab_move_filed.specs.Forms.{form_of}

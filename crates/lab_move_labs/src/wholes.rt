@@ -3,8 +3,9 @@
 ghost use Rattle.std.specs.Prelude.{◌≡◌, option_map, slice_get, IfOk, IfErr};
 ghost use Rattle.sqlite.specs.State.{HasCleanDisk};
 ghost use Rattle.lab_store_read_records.specs.Shown.{lab_read};
-ghost use Rattle.lab_move_tables.specs.OldRows.{IsOldFile};
-ghost use Rattle.lab_move_tables.specs.Reading.{ReadsOld, old_tables_of};
+ghost use Rattle.lab_store_tables.specs.Rows.{Tables};
+ghost use Rattle.lab_move_tables.specs.Reading.{ReadsOld};
+ghost use Rattle.lab_move_tables.specs.Standing.{StandsFor};
 ghost use Rattle.lab_move_labs.specs.declared.faults.WholeFault.TheVariants.{NotKept};
 ghost use Rattle.lab_move_people.specs.Kept.{where_kept};
 ghost use Rattle.lab_move_labs.specs.Laboratories.{people_with, records_if, work_with, whole_of, lab_with, kept_lab, head_of, people_of, work_of, are_kept_people, is_kept_work, is_kept_head, lab_by, IsLabOf, IsUnkept};
@@ -250,9 +251,9 @@ pub fn whole<D: Readable>(
 ) -> Result<Option<Lab>, WholeFault>
     ensures reads { ReadsOld (λ t found. IsLabOf t code.now found)
         (D.state conn.old) (D.state conn.new) result }
-    ensures not_kept { IsOldFile (D.state conn.old).now → HasCleanDisk (D.state conn.new) →
-        IfErr result (λ fault. fault ≡ NotKept →
-        IsUnkept (old_tables_of (D.state conn.old)) code.now) }
+    ensures not_kept { (t : Tables) → StandsFor (D.state conn.old).now t →
+        HasCleanDisk (D.state conn.new) →
+        IfErr result (λ fault. fault ≡ NotKept → IsUnkept t code.now) }
 {
     let head = head_at(alloc, conn, code)?;
     match head {

@@ -4,7 +4,7 @@ use Rattle.std.specs.Prelude.{IsErrAnd}
 use Rattle.std.specs.List.{list_all}
 use Rattle.sqlite.specs.State.{State}
 use Rattle.lab_store_tables.specs.Rows.{Tables}
-use Rattle.lab_move_tables.specs.Reading.{ReadsOld, old_tables_of}
+use Rattle.lab_move_tables.specs.Reading.{ReadsOld}
 use Rattle.lab_move_rows.proofs.OldReaders.{none_read, may_and, may_both, may_fail}
 use Rattle.lab_move_people.specs.Kept.{where_kept}
 use Rattle.lab_move_people.proofs.Conditions.{unkept, kept_test, kept_is}
@@ -50,16 +50,14 @@ pub record HasKept {A B : Type 0} (test : Tables → A → Bool) (by : Tables �
 pub none_kept : {A B : Type 0} (test : Tables → A → Bool) (by : Tables → A → B) (rows left : List A) (made : List B) (s : State) → made ≡ [] → left ≡ rows → HasKept test by rows made left s s
 none_kept test by rows left made s empty same = record {
   reads = none_read
-      (let t = old_tables_of s in
-      begun (all_of (test t) (by t) rows) ∙ ap (λ l. behind l (all_of (test t) (by t) rows)) (sym empty) ∙ ap (λ l. behind made (all_of (test t) (by t) l)) (sym same));
+      (λ t. begun (all_of (test t) (by t) rows) ∙ ap (λ l. behind l (all_of (test t) (by t) rows)) (sym empty) ∙ ap (λ l. behind made (all_of (test t) (by t) l)) (sym same));
 }
 
 module _ {A B : Type 0} {test : Tables → A → Bool} {by : Tables → A → B} {rows : List A} {made : List B} {left : List A} {old mid : State} (so : HasKept test by rows made left old mid) where
   pub one_kept : {F : Type 0} {more : List B} {one : A} {o : Option B} {found : B} {rest : List A} {new : State} → left ≡ one ∷ rest
       → ReadsOld {E = F} (λ t it. it ≡ where_kept (test t one) (by t one)) mid new (Ok o) → more ≡ made ++ found ∷ [] → o ≡ Some found → HasKept test by rows more rest old new
   one_kept {F} {more} {one} {o} {found} {rest} {new} steps next put here = record {
-    reads = may_both so.reads next (λ file was is.
-        let t = old_tables_of old in
+    reads = may_both so.reads next (λ t file was is.
         let read = sym here ∙ is in
         turned (test t) (by t) _ made more one left rest steps was (kept_test (test t one) (by t one) found read)
         (put ∙ ap (λ it. made ++ it ∷ []) (kept_is (test t one) (by t one) found read)));
@@ -70,20 +68,18 @@ module _ {A B : Type 0} {test : Tables → A → Bool} {by : Tables → A → B}
       → ReadsOld {E = F} (λ t it. it ≡ where_kept (test t one) (by t one)) mid new (Ok o) → o ≡ None
       → ReadsOld {T = Option (List B)} {E = F} (λ t it. it ≡ all_of (test t) (by t) rows) old new (Ok None)
   not_kept {F} {one} {o} {rest} {new} steps next none =
-      may_both so.reads next (λ file was is.
-      let t = old_tables_of old in
+      may_both so.reads next (λ t file was is.
       stopped (test t) (by t) _ made one left rest steps was (unkept (test t one) (by t one) (sym none ∙ is)))
 
   pub all_kept : {F : Type 0} → left ≡ [] → ReadsOld {T = Option (List B)} {E = F} (λ t it. it ≡ all_of (test t) (by t) rows) old mid (Ok (Some made))
-  all_kept none = may_and so.reads (λ file was. let t = old_tables_of old in ended (test t) (by t) _ made left none was)
+  all_kept none = may_and so.reads (λ t file was. ended (test t) (by t) _ made left none was)
 
   -- the same, where each is kept as something of which that is made
   pub one_kept_of : {X F : Type 0} {more : List B} {one : A} {o : Option X} {found : X} {rest : List A} {new : State} (f : X → B) → left ≡ one ∷ rest
       → ReadsOld {E = F} (λ t it. option_map f it ≡ where_kept (test t one) (by t one)) mid new (Ok o) → more ≡ made ++ f found ∷ [] → o ≡ Some found
       → HasKept test by rows more rest old new
   one_kept_of {X} {F} {more} {one} {o} {found} {rest} {new} f steps next put here = record {
-    reads = may_both so.reads next (λ file was is.
-        let t = old_tables_of old in
+    reads = may_both so.reads next (λ t file was is.
         let read = sym (ap (option_map f) here) ∙ is in
         turned (test t) (by t) _ made more one left rest steps was (kept_test (test t one) (by t one) (f found) read)
         (put ∙ ap (λ it. made ++ it ∷ []) (kept_is (test t one) (by t one) (f found) read)));
@@ -93,13 +89,12 @@ module _ {A B : Type 0} {test : Tables → A → Bool} {by : Tables → A → B}
       → ReadsOld {E = F} (λ t it. option_map f it ≡ where_kept (test t one) (by t one)) mid new (Ok o) → o ≡ None
       → ReadsOld {T = Option (List X)} {E = F} (λ t it. option_map (map f) it ≡ all_of (test t) (by t) rows) old new (Ok None)
   not_kept_of {X} {F} {one} {o} {rest} {new} f steps next none =
-      may_both so.reads next (λ file was is.
-      let t = old_tables_of old in
+      may_both so.reads next (λ t file was is.
       stopped (test t) (by t) _ made one left rest steps was (unkept (test t one) (by t one) (sym (ap (option_map f) none) ∙ is)))
 
   pub all_kept_of : {X F : Type 0} (f : X → B) (held : List X) → made ≡ map f held → left ≡ []
       → ReadsOld {T = Option (List X)} {E = F} (λ t it. option_map (map f) it ≡ all_of (test t) (by t) rows) old mid (Ok (Some held))
-  all_kept_of f held is none = may_and so.reads (λ file was. let t = old_tables_of old in ap Some (sym is) ∙ ended (test t) (by t) _ made left none was)
+  all_kept_of f held is none = may_and so.reads (λ t file was. ap Some (sym is) ∙ ended (test t) (by t) _ made left none was)
 
   pub kept_fails : {C D F G : Type 0} {Is : Tables → C → Type 0} {Then : Tables → D → Type 0} {new : State} {r : Result C F} → ReadsOld Is mid new r
       → (end : Result D G) (Q : G → Type 0) → IsErrAnd end Q → ReadsOld Then old new end

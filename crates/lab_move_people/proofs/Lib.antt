@@ -1,5 +1,5 @@
 pub mod Conditions
 pub mod KeptLoops
 pub mod Numbered
-pub mod OldOnes
+pub mod Beside
 pub mod PeopleFound

@@ -1,15 +1,13 @@
 -- What was read of persons, sessions and the trail, as what the tables have, and what was tried of them.
-use Rattle.std.proofs.Common.{◌≡◌, ℕ, ℤ, pos, Bool, true, false, ◌&&◌, ◌==◌, List, [], ◌∷◌, map, filter, length, slice_get, Option, Some, None, option_map, unwrap_or, refl, sym, ap, ap₂, ◌∙◌, int_eq}
+use Rattle.std.proofs.Common.{◌≡◌, ℕ, ℤ, pos, Bool, true, ◌&&◌, ◌==◌, List, [], ◌∷◌, map, filter, length, slice_get, Option, Some, None, option_map, unwrap_or, refl, sym, ap, ap₂, ◌∙◌, int_eq}
 use Rattle.std.specs.List.{list_all}
-use Rattle.sqlite_trees.specs.Tree.{Trees}
 use Rattle.sqlite_keyed.specs.Keyed.{get_by}
 use Rattle.sqlite_keyed.proofs.ListLemmas.{slice_get-filter, map-map, map_same}
 use Rattle.lab_people_access.specs.declared.persons.Person.{Person}
-use Rattle.lab_people_access.specs.declared.sessions.Session.{Session}
 use Rattle.lab_records_kept.specs.declared.trails.TrailRow.{TrailRow as Told}
 use Rattle.lab_store_tables.specs.Rows.{PersonRow, SessionRow, TrailRow, Tables, person_id}
 use Rattle.lab_store_tables.specs.Columns.{password_in}
-use Rattle.lab_store_tables.specs.Meaning.{code_of, session_in, sessions_of, told_in, trail_of, persons_of}
+use Rattle.lab_store_tables.specs.Meaning.{code_of, session_in, sessions_of, trail_of, persons_of}
 use Rattle.lab_store_columns.proofs.Found.{flag_back, number_back, blob_back, id_back}
 use Rattle.lab_store_read_people.specs.declared.heads.PersonHead.{PersonHead}
 use Rattle.lab_store_read_people.specs.Heads.{ask_head, person_head, person_heads_of, person_by}
@@ -18,10 +16,11 @@ use Rattle.lab_store_read_people.proofs.PersonsFound.{persons_built}
 use Rattle.lab_store_read_trail.specs.declared.heads.ToldHead.{ToldHead}
 use Rattle.lab_store_read_trail.specs.Trails.{told_head, told_by}
 use Rattle.lab_store_read_trail.specs.Shown.{told_read}
-use Rattle.lab_move_tables.specs.OldRows.{old_tables, beside, old_rounds}
+use Rattle.lab_move_tables.specs.OldRows.{beside, old_rounds}
+use Rattle.lab_move_tables.specs.Standing.{AreLifted}
 use Rattle.lab_move_tables.specs.Owned.{own_persons, own_sessions, own_trail, lab_of}
 use Rattle.lab_move_tables.specs.KeptLabs.{run, is_theirs, is_nobody_or_theirs, are_kept_persons, are_kept_sessions, is_kept_trail}
-use Rattle.lab_move_rows.specs.Shown.{person_shown, persons_shown, owner_shown, owners_shown, session_shown, sessions_shown, told_shown, trail_shown}
+use Rattle.lab_move_tables.specs.Shown.{person_shown, persons_shown, owner_shown, owners_shown, session_shown, sessions_shown, told_shown, trail_shown}
 use Rattle.lab_move_rows.specs.Checks.{are_owned}
 use Rattle.lab_move_people.specs.Kept.{where_kept, are_counted}
 use Rattle.lab_move_people.specs.Owners.{owner_read}
@@ -29,7 +28,7 @@ use Rattle.lab_move_people.specs.Persons.{password_cells, ask_cells, person_read
 use Rattle.lab_move_people.specs.Trails.{is_kept_told, told_heads_of}
 use Rattle.lab_move_people.proofs.Conditions.{unkept, kept_test, kept_is, first_fails}
 use Rattle.lab_move_people.proofs.Numbered.{counted_is, owned_is, list_all-map}
-use Rattle.lab_move_people.proofs.OldOnes.{IsOldPerson, old_persons, all_same}
+use Rattle.lab_move_rows.proofs.OldOnes.{IsOldPerson, old_persons, all_same}
 
 -- ---- whoever an arrow leads to
 
@@ -76,10 +75,9 @@ person_back one old = λ i. record (person_head one) {
   ask = ask_head (ask_back one old i);
 }
 
-pub persons_found : (trees : Trees) (lab : ℤ) → map person_read (persons_shown (old_tables trees) lab) ≡ person_heads_of (old_tables trees) lab
-persons_found trees lab =
-    map-map person_read person_shown (own_persons (old_tables trees) lab)
-    ∙ all_same IsOldPerson (λ one. person_read (person_shown one)) person_head person_back (own_persons (old_tables trees) lab) (old_persons trees lab)
+pub persons_found : (t : Tables) → AreLifted t → (lab : ℤ) → map person_read (persons_shown t lab) ≡ person_heads_of t lab
+persons_found t of lab =
+    map-map person_read person_shown (own_persons t lab) ∙ all_same IsOldPerson (λ one. person_read (person_shown one)) person_head person_back (own_persons t lab) (old_persons t of lab)
 
 asker_kept : (t : Tables) (lab : ℤ) (one : PersonRow) → is_kept_head t lab (person_head one) ≡ is_nobody_or_theirs t lab one.ask.asker
 asker_kept t lab one = go one.ask.asker

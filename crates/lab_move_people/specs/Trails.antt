@@ -6,7 +6,7 @@ use Rattle.lab_store_read_trail.specs.declared.heads.ToldHead.{ToldHead}
 use Rattle.lab_store_read_trail.specs.Trails.{told_head}
 use Rattle.lab_move_tables.specs.Owned.{own_trail}
 use Rattle.lab_move_tables.specs.KeptLabs.{is_nobody_or_theirs}
-use Rattle.lab_move_rows.specs.Shown.{trail_shown}
+use Rattle.lab_move_tables.specs.Shown.{trail_shown}
 use Rattle.lab_move_people.specs.Kept.{where_kept, are_counted}
 
 -- by a person, or by nobody

@@ -61,7 +61,7 @@ fn chosen_of_row(row: &Row) -> Result<Password, ReadFault>
 }
 
 // The second verifier of a one-time word, which has a salt of its own.
-#[tactic(auto, using(crate::proofs::OldOnes::beside_filled))]
+#[tactic(auto, using(crate::proofs::Beside::beside_filled))]
 fn second_of_row(row: &Row) -> Result<Verifier, ReadFault>
     ensures { let cells = password_cells row.now in IfOk result
         (λ verifier. verifier ≡ verifier_in cells.salt2 cells.rounds2 cells.bytes2) }

@@ -1,5 +1,5 @@
 -- A query commits nothing, whatever the schema of the file is, and what it leaves is what was there.
-use Rattle.std.proofs.Common.{◌≡◌, ◌⊎◌, inl, inr, ℕ, List, ◌+◌, Bool, true, false, Some, None, Option, Ok, Err, Result, IfOk, IfErr, OnOk, IsTrue, refl, sym, ap, subst, ◌∙◌}
+use Rattle.std.proofs.Common.{◌≡◌, ◌⊎◌, inl, inr, ℕ, List, ◌+◌, Bool, true, false, None, Ok, Err, Result, IfOk, IfErr, IsTrue, refl, sym, ap, ◌∙◌}
 use Rattle.std.specs.Prelude.{Vec, if◌then◌else◌}
 use Rattle.std.specs.declared.alloc.Global.{Global}
 use Rattle.sqlite_value.specs.Order.{Row}
@@ -9,7 +9,6 @@ use Rattle.sqlite_ast.specs.declared.Statement.{Statement}
 use Rattle.sqlite_ast.specs.declared.Statement.TheVariants as written
 use Rattle.sqlite_syntax.specs.declared.statement.Parsed.{Parsed}
 use Rattle.sqlite_schema.specs.declared.command.Command.{Command}
-use Rattle.sqlite_schema.specs.declared.command.Returning.{Returning}
 use Rattle.sqlite_schema.specs.declared.schema.Schema.{Schema}
 use Rattle.sqlite_resolve.specs.declared.compiled.Compiled.{Compiled}
 use Rattle.sqlite_resolve.specs.declared.error.CompileError.TheVariants.{NoSuchTable}
@@ -23,6 +22,7 @@ use Rattle.lab_store_tables.specs.Ready.{IsAtRest}
 use Rattle.lab_store_columns.specs.Reads.{FailsToAsk}
 use Rattle.lab_store_columns.proofs.Queries.{IsRead, ends}
 use Rattle.lab_move_tables.specs.Reading.{PassesOver}
+use Rattle.lab_move_tables.specs.Showing.{ShowsOf}
 
 abbrev IsBare : Compiled → Type 0
 IsBare c = c.returning ≡ None
@@ -72,6 +72,14 @@ understood_bare sql read s c h = go (reads_listing s sql) h
     go : (b : Bool) → ◌≡◌ {A = Checked Compiled} (if b then if_select (compiled listing_schema sql) else compiled s sql) (Ok c) → IsBare c
     go true e = compiled_bare sql read listing_schema c (selected (compiled listing_schema sql) c e)
     go false e = compiled_bare sql read s c e
+
+-- what a connection shows is what the question shows of its file, under any schema
+pub shows_of : (sql : List ℕ) → IsRead (first sql) → (params : Row) (old new : State) (rows : List Row) → Shown sql params old new rows → ShowsOf old.now sql params rows
+unfolding Shown
+shows_of sql read params old new rows h =
+    let bare : h.0.returning ≡ None = understood_bare sql read old.now.schema h.0 h.1.is in
+    let it = rw bare at h.2 in
+    record { read = h.0; is = h.1.is; source = it.0; from = it.1; moment = h.1.now; shown = it.2 }
 
 never_commits : (sql : List ℕ) → IsRead (first sql) → (params : Row) (s : State) (db : Trees) → ¬ CommitsShowing sql params s db
 unfolding CommitsShowing

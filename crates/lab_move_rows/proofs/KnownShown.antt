@@ -3,7 +3,7 @@ use Rattle.std.proofs.Common.{◌≡◌, pos, true, false, [], ◌∷◌, length
 use Rattle.std.specs.Prelude.{codes}
 use Rattle.sqlite_value.specs.declared.value.Value.TheVariants.{Int, Text}
 use Rattle.lab_move_tables.proofs.KnownOldFile.{lifted}
-use Rattle.lab_move_rows.specs.Shown.{codes_shown, persons_shown, owners_shown, sessions_shown, forms_shown, choices_shown, versions_shown, entries_shown, signatures_shown, trail_shown}
+use Rattle.lab_move_tables.specs.Shown.{codes_shown, persons_shown, owners_shown, sessions_shown, forms_shown, choices_shown, versions_shown, entries_shown, signatures_shown, trail_shown}
 use Rattle.lab_move_rows.specs.Checks.{are_numbered, are_owned}
 
 -- by the bytes of their codes, and not by their ids

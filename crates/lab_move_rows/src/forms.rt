@@ -2,7 +2,7 @@
 
 ghost use Rattle.std.specs.Prelude.{◌≡◌};
 ghost use Rattle.lab_move_tables.specs.Reading.{ReadsOld};
-ghost use Rattle.lab_move_rows.specs.Shown.{forms_shown, fields_shown, choices_shown};
+ghost use Rattle.lab_move_tables.specs.Shown.{forms_shown, fields_shown, choices_shown};
 
 use lab_store_columns::asking::rows_by_one;
 use lab_store_columns::{ReadFault, Readable};

@@ -2,7 +2,7 @@
 
 ghost use Rattle.std.specs.Prelude.{◌≡◌};
 ghost use Rattle.lab_move_tables.specs.Reading.{ReadsOld};
-ghost use Rattle.lab_move_rows.specs.Shown.{codes_shown, labs_shown};
+ghost use Rattle.lab_move_tables.specs.Shown.{codes_shown, labs_shown};
 
 use crate::asking::rows_by_none;
 use lab_store_columns::asking::rows_by_text;

@@ -1,8 +1,9 @@
 //! Records of a laboratory, their versions, and the entries and signatures of these, each by its own row.
 
-ghost use Rattle.std.specs.Prelude.{◌≡◌};
+ghost use Rattle.std.specs.Prelude.{◌≡◌, map};
 ghost use Rattle.lab_move_tables.specs.Reading.{ReadsOld};
-ghost use Rattle.lab_move_rows.specs.Shown.{records_shown, versions_shown, entries_shown, entry_places_shown, signatures_shown, signature_places_shown};
+ghost use Rattle.lab_move_tables.specs.Showing.{said_at};
+ghost use Rattle.lab_move_tables.specs.Shown.{records_shown, versions_shown, entries_shown, entry_places_shown, signatures_shown, signature_places_shown};
 
 use lab_store_columns::asking::rows_by_one;
 use lab_store_columns::{ReadFault, Readable};
@@ -28,7 +29,7 @@ pub fn record_rows<D: Readable>(conn: &mut D, lab: i64) -> Result<Vec<Row>, Read
 /// # Errors
 /// The store refused, or memory ran out.
 pub fn version_rows<D: Readable>(conn: &mut D, kept: i64) -> Result<Vec<Row>, ReadFault>
-    ensures { ReadsOld (λ t rows. rows.items ≡ versions_shown t kept)
+    ensures { ReadsOld (λ t rows. map (said_at 4) rows.items ≡ versions_shown t kept)
         (D.state conn.old) (D.state conn.new) result }
 {
     rows_by_one(
@@ -43,7 +44,7 @@ pub fn version_rows<D: Readable>(conn: &mut D, kept: i64) -> Result<Vec<Row>, Re
 /// # Errors
 /// The store refused, or memory ran out.
 pub fn entry_rows<D: Readable>(conn: &mut D, version: i64) -> Result<Vec<Row>, ReadFault>
-    ensures { ReadsOld (λ t rows. rows.items ≡ entries_shown t version)
+    ensures { ReadsOld (λ t rows. map (said_at 5) rows.items ≡ entries_shown t version)
         (D.state conn.old) (D.state conn.new) result }
 {
     rows_by_one(
@@ -73,7 +74,7 @@ pub fn entry_places<D: Readable>(conn: &mut D, version: i64) -> Result<Vec<Row>,
 /// # Errors
 /// The store refused, or memory ran out.
 pub fn signature_rows<D: Readable>(conn: &mut D, version: i64) -> Result<Vec<Row>, ReadFault>
-    ensures { ReadsOld (λ t rows. rows.items ≡ signatures_shown t version)
+    ensures { ReadsOld (λ t rows. map (said_at 3) rows.items ≡ signatures_shown t version)
         (D.state conn.old) (D.state conn.new) result }
 {
     rows_by_one(

@@ -2,7 +2,7 @@
 
 ghost use Rattle.std.specs.Prelude.{◌≡◌};
 ghost use Rattle.lab_move_tables.specs.Reading.{ReadsOld};
-ghost use Rattle.lab_move_rows.specs.Shown.{trail_shown};
+ghost use Rattle.lab_move_tables.specs.Shown.{trail_shown};
 
 use lab_store_columns::asking::rows_by_one;
 use lab_store_columns::{ReadFault, Readable};

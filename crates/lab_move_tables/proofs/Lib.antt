@@ -1,2 +1,4 @@
 pub mod OldSchemaValues
 pub mod KnownOldFile
+pub mod PeerValues
+pub mod KnownFiles

@@ -1,6 +1,11 @@
 pub mod OldSheets
 pub mod OldSchema
 pub mod OldRows
+pub mod PeerFiles
 pub mod Owned
+pub mod Shown
+pub mod Questions
+pub mod Showing
+pub mod Standing
 pub mod KeptLabs
 pub mod Reading

@@ -6,7 +6,8 @@ use Rattle.sqlite_value.specs.Order.{Row, bytes}
 use Rattle.sqlite_trees.specs.Tree.{Trees}
 use Rattle.sqlite.specs.Effect.{Database}
 use Rattle.lab_store_tables.specs.Rows.{PersonRow, FormRow, VersionRow, EntryRow, SignatureRow, Tables, optional_in}
-use Rattle.lab_store_tables.specs.Family.{Persons, Forms, Versions, Entries, Signatures, row_by, from_by, tables_by}
+use Rattle.sqlite_schema.specs.declared.schema.Schema.{Schema}
+use Rattle.lab_store_tables.specs.Family.{Persons, Forms, Versions, Entries, Signatures, Layout, row_by, from_by, tables_by}
 use Rattle.lab_store_tables.specs.Held.{AreRising, AreStoredBy}
 use Rattle.lab_store_laws.specs.ByRules.{IsByRules}
 use Rattle.lab_move_tables.specs.OldSchema.{old_schema}
@@ -44,9 +45,14 @@ old_signature_from = from_by before Signatures
 abbrev pub old_tables : Trees → Tables
 old_tables = tables_by before
 
--- a file of schema 2, whose rows are of their types, and which keeps its own rules
-pub record IsOldFile (db : Database) : Type 0 where
-  pub schema : db.schema ≡ old_schema
-  pub stored : AreStoredBy before db.trees (old_tables db.trees)
+-- a file of schema 2 whose schema is this, which keeps each table so, whose rows are of their types,
+-- and which keeps its own rules
+pub record IsFileOf (text : Schema) (layout : Layout) (db : Database) : Type 0 where
+  pub schema : db.schema ≡ text
+  pub stored : AreStoredBy layout db.trees (old_tables db.trees)
   pub rising : AreRising (old_tables db.trees)
   pub rules : IsByRules (old_tables db.trees)
+
+-- one whose tables are, text for text, those of `OldSchema`
+abbrev pub IsOldFile : Database → Type 0
+IsOldFile = IsFileOf old_schema before

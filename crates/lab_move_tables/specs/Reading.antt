@@ -6,11 +6,7 @@ use Rattle.std.specs.Prelude.{◌≡◌, Result, IfOk, OnOk, IsTrue}
 use Rattle.sqlite.specs.State.{State, HasCleanDisk, IsUnchanged}
 use Rattle.lab_store_tables.specs.Rows.{Tables}
 use Rattle.lab_store_tables.specs.Ready.{IsAtRest, WhereShown, LeavesNoMore}
-use Rattle.lab_move_tables.specs.OldRows.{IsOldFile, old_tables}
-
--- the tables for which the file of a connection stands
-abbrev pub old_tables_of : State → Tables
-old_tables_of s = old_tables s.now.trees
+use Rattle.lab_move_tables.specs.Standing.{StandsFor}
 
 -- however the call ends
 pub record PassesOver (old new : State) : Type 0 where
@@ -20,11 +16,11 @@ pub record PassesOver (old new : State) : Type 0 where
   pub shows : IsAtRest old → WhereShown new (new.now ≡ old.now)
   pub crash : LeavesNoMore old new
 
--- where it gives an answer, nothing changed, and in a file of schema 2 the answer is the one of the
--- tables for which the file stands
+-- where it gives an answer, nothing changed, and the answer is the one of the tables for which the
+-- file stands
 pub record ReadsOld {T E : Type 0} (Answer : Tables → T → Type 0) (old new : State)
     (result : Result T E) : Type 0 where
   pub passes : PassesOver old new
   pub shows : HasCleanDisk new → OnOk result (new.now ≡ old.now)
   pub same : HasCleanDisk new → IsTrue old.is_open → OnOk result (IsUnchanged old new)
-  pub answer : IsOldFile old.now → HasCleanDisk new → IfOk result (Answer (old_tables_of old))
+  pub answer : (t : Tables) → StandsFor old.now t → HasCleanDisk new → IfOk result (Answer t)

@@ -14,8 +14,9 @@ use Rattle.lab_wire_heads.specs.Sending.{write_fault_word}
 use Rattle.lab_move.specs.Moving.{HasCause, IsMoved, IsStart, LeavesUnfinished}
 use Rattle.lab_move.specs.declared.faults.MoveFault.{MoveFault}
 use Rattle.lab_move.specs.declared.faults.MoveFault.TheVariants.{File, NotSound}
-use Rattle.lab_move_tables.specs.OldRows.{IsOldFile}
-use Rattle.lab_move_tables.specs.Reading.{PassesOver, ReadsOld, old_tables_of}
+use Rattle.lab_store_tables.specs.Rows.{Tables}
+use Rattle.lab_move_tables.specs.Reading.{PassesOver, ReadsOld}
+use Rattle.lab_move_tables.specs.Standing.{StandsFor}
 use Rattle.lab_program_outside.specs.TaskEnds.{TaskEnd}
 use Rattle.lab_program_shelves.specs.declared.faults.OpenFault.{OpenFault}
 use Rattle.lab_program_shelves.specs.declared.faults.OpenFault.TheVariants.{File as Unopened}
@@ -78,10 +79,10 @@ module _ {S : Type 0} (disk : Ghosts S) where
     -- both files afterwards
     pub left : Held S
     pub made : Held S
-    -- so many laboratories, each as the old file means it, and no other
-    pub moved : HasCleanDisk (state disk made) → IsOldFile (state disk old).now →
-        HasCleanDisk (state disk left) → IfOk result
-        (IsMoved (old_tables_of (state disk old)) (tables_of (state disk made)))
+    -- so many laboratories, each as the tables mean it for which the old file stands, and no other
+    pub moved : HasCleanDisk (state disk made) → (t : Tables)
+        → StandsFor (state disk old).now t → HasCleanDisk (state disk left)
+        → IfOk result (IsMoved t (tables_of (state disk made)))
     -- the new file is all that a start asks
     pub ready : HasCleanDisk (state disk made) → OnOk result (IsStart (state disk made))
     -- a fault has this cause

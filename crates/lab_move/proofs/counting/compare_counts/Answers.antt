@@ -4,10 +4,10 @@ use Rattle.lab_move.proofs.OldVerdicts.{any_ok, of_store_by}
 use Rattle.lab_move.proofs.counting.compare_counts.Goals as goal
 
 pub returns-in-Ok-clause-reads : goal.returns-in-Ok-clause-reads
-returns-in-Ok-clause-reads g c = may_and c.in-Ok.ensures.reads (λ file it. any_ok c.all_or_storage.result)
+returns-in-Ok-clause-reads g c = may_and c.in-Ok.ensures.reads (λ t file it. any_ok c.all_or_storage.result)
 
 pub returns-in-Ok-clause-passes : goal.returns-in-Ok-clause-passes
-returns-in-Ok-clause-passes g c = may_and c.in-Ok.ensures.passes (λ file it. any_ok c.all_or_storage.result)
+returns-in-Ok-clause-passes g c = may_and c.in-Ok.ensures.passes (λ t file it. any_ok c.all_or_storage.result)
 
 pub returns-in-Err-clause-reads : goal.returns-in-Err-clause-reads
 returns-in-Err-clause-reads g c = may_end c.in-Err.ensures.reads (Err c.store_fault.result) (λ e. Unit {0}) tt

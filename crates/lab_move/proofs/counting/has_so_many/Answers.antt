@@ -10,7 +10,7 @@ use Rattle.lab_move.proofs.counting.has_so_many.Goals as goal
 
 pub returns-in-Ok-clause-reads : goal.returns-in-Ok-clause-reads
 returns-in-Ok-clause-reads g c =
-    may_and (rows_read {Answer = λ t rows. Unit {0}} counts_read c.in-Ok.ensures (λ rows file shown. tt)) (λ file it. any_ok c.are_alike.result)
+    may_and (rows_read {Answer = λ t rows. Unit {0}} counts_read c.in-Ok.ensures (λ t file rows shown. tt)) (λ t file it. any_ok c.are_alike.result)
 
 pub returns-in-Ok-clause-counted : goal.returns-in-Ok-clause-counted
 returns-in-Ok-clause-counted g c clean typed =
@@ -22,4 +22,4 @@ returns-in-Ok-clause-counted g c clean typed =
 
 pub returns-in-Err-clause-reads : goal.returns-in-Err-clause-reads
 returns-in-Err-clause-reads g c =
-    may_end (rows_read {Answer = λ t rows. Unit {0}} counts_read c.in-Err.ensures (λ rows file shown. tt)) (Err c.in-Err.fault) (λ e. Unit {0}) tt
+    may_end (rows_read {Answer = λ t rows. Unit {0}} counts_read c.in-Err.ensures (λ t file rows shown. tt)) (Err c.in-Err.fault) (λ e. Unit {0}) tt

@@ -12,7 +12,7 @@ pub finish_with-requires : goal.finish_with-requires
 finish_with-requires g c = record { at_rest = c.in-Ok.ensures.passes.passes.at_rest c.requires.at_rest }
 
 pub returns-in-Ok-clause-reads : goal.returns-in-Ok-clause-reads
-returns-in-Ok-clause-reads g c = may_and c.in-Ok.ensures.reads (λ file it. c.finish_with.ensures.count)
+returns-in-Ok-clause-reads g c = may_and c.in-Ok.ensures.reads (λ t file it. c.finish_with.ensures.count)
 
 pub returns-in-Ok-clause-finished : goal.returns-in-Ok-clause-finished
 returns-in-Ok-clause-finished g c = finishes_then c.in-Ok.ensures.passes c.finish_with.result c.finish_with.ensures.finished

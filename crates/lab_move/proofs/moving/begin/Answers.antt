@@ -7,7 +7,7 @@ use Rattle.lab_move.proofs.Causes.{old_cause, made_cause, made_untouched, made_t
 use Rattle.lab_move.proofs.moving.begin.Goals as goal
 
 pub returns-in-Ok-clause-reads : goal.returns-in-Ok-clause-reads
-returns-in-Ok-clause-reads g c = may_and c.in-Ok.ensures.reads (λ file it. any_ok c.make_tables.result)
+returns-in-Ok-clause-reads g c = may_and c.in-Ok.ensures.reads (λ t file it. any_ok c.make_tables.result)
 
 pub returns-in-Ok-clause-cause : goal.returns-in-Ok-clause-cause
 returns-in-Ok-clause-cause g c =

@@ -9,13 +9,13 @@ use Rattle.lab_move.proofs.Causes.{filled_cause, filled_late, all_moved}
 use Rattle.lab_move.proofs.moving.migrate.Goals as goal
 
 pub returns-in-Ok-clause-moved : goal.returns-in-Ok-clause-moved
-returns-in-Ok-clause-moved g c blank clean file read =
+returns-in-Ok-clause-moved g c blank clean t file read =
     let before = state g.S.Store c.args.old.now.conn in
     let mid = state g.S.Store c.begin.new.old.conn in
     let after = state g.S.Store c.fill.new.old.conn in
     let new = state g.T.Store c.fill.new.new in
-    all_moved before after new c.fill.result (file, read)
-    ((read_on c.in-Ok.ensures.reads c.fill.ensures.reads).answer file read)
+    all_moved before after new c.fill.result t (file, read)
+    ((read_on c.in-Ok.ensures.reads c.fill.ensures.reads).answer t file read)
     (whole_now g.T.Store blank c.in-Ok.ensures.begun before mid after (λ late. c.in-Ok.ensures.reads.shows (c.fill.ensures.reads.passes.clean late)) c.fill.ensures.fills clean)
 
 pub returns-in-Ok-clause-counted : goal.returns-in-Ok-clause-counted
@@ -43,7 +43,7 @@ returns-in-Ok-clause-refused g c =
     (λ late. c.in-Ok.ensures.reads.shows (c.fill.ensures.reads.passes.clean late)) c.fill.ensures.fault
 
 pub returns-in-Ok-clause-old_same : goal.returns-in-Ok-clause-old_same
-returns-in-Ok-clause-old_same g c = may_then c.in-Ok.ensures.reads c.fill.ensures.reads (λ file it count counted. tt)
+returns-in-Ok-clause-old_same g c = may_then c.in-Ok.ensures.reads c.fill.ensures.reads (λ t file it count counted. tt)
 
 pub returns-in-Ok-clause-unfinished : goal.returns-in-Ok-clause-unfinished
 returns-in-Ok-clause-unfinished g c blank =

@@ -4,11 +4,11 @@ use Rattle.lab_move.proofs.OldVerdicts.{desk_read, of_store_by}
 use Rattle.lab_move.proofs.opening.number_rows.Goals as goal
 
 pub returns-in-Ok-clause-reads : goal.returns-in-Ok-clause-reads
-returns-in-Ok-clause-reads g c = may_and (rows_read {Answer = λ t rows. Unit {0}} desk_read c.in-Ok.ensures (λ rows file shown. tt)) (λ file it. tt)
+returns-in-Ok-clause-reads g c = may_and (rows_read {Answer = λ t rows. Unit {0}} desk_read c.in-Ok.ensures (λ t file rows shown. tt)) (λ t file it. tt)
 
 pub returns-in-Err-clause-reads : goal.returns-in-Err-clause-reads
 returns-in-Err-clause-reads g c =
-    may_end (rows_read {Answer = λ t rows. Unit {0}} desk_read c.in-Err.ensures (λ rows file shown. tt))
+    may_end (rows_read {Answer = λ t rows. Unit {0}} desk_read c.in-Err.ensures (λ t file rows shown. tt))
     (Err c.store_fault.result) (λ e. Unit {0}) tt
 
 pub returns-in-Err-clause-fault : goal.returns-in-Err-clause-fault

@@ -34,7 +34,7 @@ returns-in-Ok-clause-ours g c clean named =
     inl (verdict_at old new rows c.verdict.result (c.in-Ok.ensures.reads.shows clean) is ∙ ours_taken old new rows named (c.in-Ok.ensures.shown clean))
 
 pub returns-in-Ok-clause-reads : goal.returns-in-Ok-clause-reads
-returns-in-Ok-clause-reads g c = may_and c.in-Ok.ensures.reads (λ file it. any_ok c.verdict.result)
+returns-in-Ok-clause-reads g c = may_and c.in-Ok.ensures.reads (λ t file it. any_ok c.verdict.result)
 
 pub returns-in-Ok-clause-fault : goal.returns-in-Ok-clause-fault
 returns-in-Ok-clause-fault g c = λ e. not_taken c.schema-in-Ok.result.now c.deref.result.now (sym c.verdict.ensures ∙ e)

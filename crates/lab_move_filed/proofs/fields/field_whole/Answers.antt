@@ -2,7 +2,6 @@ use Rattle.std.proofs.Common.{w64, option_map, ap, ◌∙◌, SFits, rules}
 use Rattle.std.proofs.lemmas.Int.{to_z-of_z}
 use Rattle.lab_store_tables.specs.Meaning.{names_of}
 use Rattle.lab_move_tables.specs.KeptLabs.{are_kept_names}
-use Rattle.lab_move_tables.specs.Reading.{old_tables_of}
 use Rattle.lab_move_rows.proofs.OldReaders.{may_and}
 use Rattle.lab_move_people.proofs.Conditions.{mapped_where}
 use Rattle.lab_move_filed.specs.Forms.{field_with}
@@ -10,8 +9,7 @@ use Rattle.lab_move_filed.proofs.fields.field_whole.Goals as goal
 
 pub returns : goal.returns
 returns g c =
-    let t = old_tables_of (g.D.Readable.state c.args.conn.now) in
     let head = c.args.head in
     let id_fits : SFits w64 head.id = search rules in
-    may_and (rw (to_z-of_z w64 head.id id_fits) at c.in_ok-names.ensures) (λ file is.
+    may_and (rw (to_z-of_z w64 head.id id_fits) at c.in_ok-names.ensures) (λ t file is.
     c.field_with.ensures ∙ ap (option_map (field_with head)) is ∙ mapped_where (field_with head) (are_kept_names t head.id) (names_of t head.id))

@@ -1,13 +1,12 @@
 use Rattle.std.proofs.Common.{w64, map, ap, ◌∙◌}
 use Rattle.std.proofs.lemmas.Int.{to_z-of_z}
 use Rattle.lab_store_columns.proofs.Queries.{if_then}
-use Rattle.lab_move_tables.specs.Reading.{old_tables_of}
 use Rattle.lab_move_rows.proofs.OldReaders.{may_and}
 use Rattle.lab_move_filed.specs.Forms.{form_read}
 use Rattle.lab_move_filed.proofs.FormsFound.{forms_found}
 use Rattle.lab_move_filed.proofs.forms.form_heads_at.Goals as goal
 
 pub returns : goal.returns
-returns g c = may_and (rw (to_z-of_z w64 c.args.lab c.ranges.lab) at c.in_ok-rows.ensures) (λ file rows.
+returns g c = may_and (rw (to_z-of_z w64 c.args.lab c.ranges.lab) at c.in_ok-rows.ensures) (λ t file rows.
     if_then c.forms_of_rows.result (λ made is. is ∙ ap (map form_read) (c.deref.ensures.value ∙ rows)
-    ∙ forms_found (old_tables_of (g.D.Readable.state c.args.conn.now)) c.args.lab) c.forms_of_rows.ensures)
+    ∙ forms_found t c.args.lab) c.forms_of_rows.ensures)

@@ -1,6 +1,5 @@
 use Rattle.std.proofs.Common.{w64, ◌∙◌, SFits, rules}
 use Rattle.std.proofs.lemmas.Int.{to_z-of_z}
-use Rattle.lab_move_tables.specs.Reading.{old_tables_of}
 use Rattle.lab_move_rows.proofs.OldReaders.{may_both}
 use Rattle.lab_move_people.proofs.KeptLoops.{then_fails}
 use Rattle.lab_move_filed.proofs.RecordsFound.{leaf_done}
@@ -11,9 +10,8 @@ returns-in_err-signatures g c = then_fails c.in_ok-rows.ensures c.signatures_at.
 
 pub returns : goal.returns
 returns g c =
-    let t = old_tables_of (g.D.Readable.state c.args.conn.now) in
     let head = c.args.head in
     let id_fits : SFits w64 head.id = search rules in
     may_both (rw (to_z-of_z w64 c.args.lab c.ranges.lab, to_z-of_z w64 head.id id_fits) at c.in_ok-rows.ensures)
     (rw (to_z-of_z w64 c.args.lab c.ranges.lab, to_z-of_z w64 head.id id_fits) at c.in_ok-signatures.ensures)
-    (λ file rows signatures. (rw (to_z-of_z w64 c.args.lab c.ranges.lab) at c.leaf_with.ensures) ∙ leaf_done t c.args.lab head c.in_ok-rows.rows c.in_ok-signatures.signatures rows signatures)
+    (λ t file rows signatures. (rw (to_z-of_z w64 c.args.lab c.ranges.lab) at c.leaf_with.ensures) ∙ leaf_done t c.args.lab head c.in_ok-rows.rows c.in_ok-signatures.signatures rows signatures)

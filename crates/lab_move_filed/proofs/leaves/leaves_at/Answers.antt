@@ -1,6 +1,5 @@
 use Rattle.std.proofs.Common.{w64, Some, sym, ap, ◌∙◌}
 use Rattle.std.proofs.lemmas.Int.{to_z-of_z}
-use Rattle.lab_move_tables.specs.Reading.{old_tables_of}
 use Rattle.lab_move_rows.proofs.OldReaders.{may_and, may_then}
 use Rattle.lab_move_filed.specs.Records.{leaves_in}
 use Rattle.lab_move_filed.proofs.RecordsFound.{leaves_done, leaves_fail}
@@ -8,11 +7,9 @@ use Rattle.lab_move_filed.proofs.leaves.leaves_at.Goals as goal
 
 pub returns-in-Some : goal.returns-in-Some
 returns-in-Some g c =
-    let s = g.D.Readable.state c.args.conn.now in
     may_then (rw (to_z-of_z w64 c.args.kept c.ranges.kept) at c.in_ok-heads.ensures) (rw (to_z-of_z w64 c.args.lab c.ranges.lab) at c.leaves_whole.ensures)
-    (λ file given found is. leaves_done s.now.trees c.args.lab c.args.kept c.args.count c.into_vec.result.items (leaves_in found) (ap Some c.into_vec.ensures ∙ sym c.in-Some.is ∙ given) is)
+    (λ t file given found is. leaves_done t file.lifted c.args.lab c.args.kept c.args.count c.into_vec.result.items (leaves_in found) (ap Some c.into_vec.ensures ∙ sym c.in-Some.is ∙ given) is)
 
 pub returns-in-None : goal.returns-in-None
 returns-in-None g c =
-    let t = old_tables_of (g.D.Readable.state c.args.conn.now) in
-    may_and (rw (to_z-of_z w64 c.args.kept c.ranges.kept) at c.in_ok-heads.ensures) (λ file given. leaves_fail t c.args.lab c.args.kept c.args.count (sym c.in-None.is ∙ given))
+    may_and (rw (to_z-of_z w64 c.args.kept c.ranges.kept) at c.in_ok-heads.ensures) (λ t file given. leaves_fail t c.args.lab c.args.kept c.args.count (sym c.in-None.is ∙ given))

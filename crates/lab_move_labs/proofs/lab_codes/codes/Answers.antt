@@ -2,14 +2,12 @@ use Rattle.std.proofs.Common.{◌∙◌, ap, map}
 use Rattle.sqlite_keyed.specs.Lists.{sort_by}
 use Rattle.sqlite_keyed.proofs.ListLemmas.{map-map}
 use Rattle.lab_store_columns.proofs.Queries.{if_then}
-use Rattle.lab_move_tables.specs.Reading.{old_tables_of}
-use Rattle.lab_move_rows.specs.Shown.{by_lab, code_shown}
+use Rattle.lab_move_tables.specs.Shown.{by_lab, code_shown}
 use Rattle.lab_move_rows.proofs.OldReaders.{may_and}
 use Rattle.lab_move_labs.specs.Laboratories.{code_read}
 use Rattle.lab_move_labs.proofs.lab_codes.codes.Goals as goal
 
 pub returns : goal.returns
 returns g c =
-    let t = old_tables_of (g.D.Readable.state c.args.conn.now) in
-    may_and c.in_ok-rows.ensures (λ file rows.
+    may_and c.in_ok-rows.ensures (λ t file rows.
     if_then c.codes_listed.result (λ made is. is ∙ ap (map code_read) (c.deref.ensures.value ∙ rows) ∙ map-map code_read code_shown (sort_by by_lab t.labs)) c.codes_listed.ensures)

@@ -1,6 +1,5 @@
 use Rattle.std.proofs.Common.{w64, ◌∙◌, SFits, rules}
 use Rattle.std.proofs.lemmas.Int.{to_z-of_z}
-use Rattle.lab_move_tables.specs.Reading.{old_tables_of}
 use Rattle.lab_move_rows.proofs.OldReaders.{may_both}
 use Rattle.lab_move_people.proofs.KeptLoops.{then_fails}
 use Rattle.lab_move_labs.proofs.WholesFound.{both_read, lab_done}
@@ -15,8 +14,7 @@ returns-in_err-trail g c =
 
 pub returns : goal.returns
 returns g c =
-    let t = old_tables_of (g.D.Readable.state c.args.conn.now) in
     let head = c.args.head in
     let id_fits : SFits w64 head.id = search rules in
     may_both (both_read c.in_ok-people.ensures c.in_ok-work.ensures) (rw (to_z-of_z w64 head.id id_fits) at c.in_ok-trail.ensures)
-    (λ file both trail. c.lab_with.ensures ∙ lab_done t head c.in_ok-people.people c.in_ok-work.work c.in_ok-trail.trail both.0 both.1 trail)
+    (λ t file both trail. c.lab_with.ensures ∙ lab_done t head c.in_ok-people.people c.in_ok-work.work c.in_ok-trail.trail both.0 both.1 trail)

@@ -1,6 +1,5 @@
 use Rattle.std.proofs.Common.{w64, ◌∙◌, SFits, rules}
 use Rattle.std.proofs.lemmas.Int.{to_z-of_z}
-use Rattle.lab_move_tables.specs.Reading.{old_tables_of}
 use Rattle.lab_move_rows.proofs.OldReaders.{may_both}
 use Rattle.lab_move_people.proofs.KeptLoops.{then_fails}
 use Rattle.lab_move_labs.proofs.WholesFound.{people_done}
@@ -11,8 +10,7 @@ returns-in_err-sessions g c = then_fails c.in_ok-persons.ensures c.sessions_at.e
 
 pub returns : goal.returns
 returns g c =
-    let t = old_tables_of (g.D.Readable.state c.args.conn.now) in
     let head = c.args.head.now in
     let id_fits : SFits w64 head.id = search rules in
     may_both (rw (to_z-of_z w64 head.id id_fits) at c.in_ok-persons.ensures) (rw (to_z-of_z w64 head.id id_fits) at c.in_ok-sessions.ensures)
-    (λ file persons sessions. c.people_with.ensures ∙ people_done t head c.in_ok-persons.persons c.in_ok-sessions.sessions persons sessions)
+    (λ t file persons sessions. c.people_with.ensures ∙ people_done t head c.in_ok-persons.persons c.in_ok-sessions.sessions persons sessions)

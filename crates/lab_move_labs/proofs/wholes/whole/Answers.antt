@@ -1,5 +1,4 @@
 use Rattle.std.proofs.Common.{Some, sym, ◌∙◌}
-use Rattle.lab_move_tables.specs.Reading.{old_tables_of}
 use Rattle.lab_move_rows.proofs.OldReaders.{may_end, may_and, may_both}
 use Rattle.lab_move_people.proofs.KeptLoops.{then_fails}
 use Rattle.lab_move_labs.specs.Laboratories.{IsUnkept}
@@ -10,7 +9,7 @@ pub returns-in_err-head-clause-reads : goal.returns-in_err-head-clause-reads
 returns-in_err-head-clause-reads g c = may_end c.in_err-head.ensures c.from_residual.result _ c.from_residual.ensures.1
 
 pub returns-in_err-head-clause-not_kept : goal.returns-in_err-head-clause-not_kept
-returns-in_err-head-clause-not_kept g c = λ file clean. not_told (IsUnkept (old_tables_of (g.D.Readable.state c.args.conn.now)) c.args.code.now) c.from_residual.result c.in_err-head.field-0.0 c.from_residual.ensures.1
+returns-in_err-head-clause-not_kept g c = λ t file clean. not_told (IsUnkept t c.args.code.now) c.from_residual.result c.in_err-head.field-0.0 c.from_residual.ensures.1
 
 pub returns-in_err-lab-in-Some-clause-reads : goal.returns-in_err-lab-in-Some-clause-reads
 returns-in_err-lab-in-Some-clause-reads g c =
@@ -18,21 +17,18 @@ returns-in_err-lab-in-Some-clause-reads g c =
 
 pub returns-in_err-lab-in-Some-clause-not_kept : goal.returns-in_err-lab-in-Some-clause-not_kept
 returns-in_err-lab-in-Some-clause-not_kept g c =
-    λ file clean. not_told (IsUnkept (old_tables_of (g.D.Readable.state c.args.conn.now)) c.args.code.now) c.from_residual-in_err-lab-in-Some.result c.in_err-lab-in-Some.field-0.0 c.from_residual-in_err-lab-in-Some.ensures.1
+    λ t file clean. not_told (IsUnkept t c.args.code.now) c.from_residual-in_err-lab-in-Some.result c.in_err-lab-in-Some.field-0.0 c.from_residual-in_err-lab-in-Some.ensures.1
 
 pub returns-in_ok-lab-in-Some-clause-reads : goal.returns-in_ok-lab-in-Some-clause-reads
 returns-in_ok-lab-in-Some-clause-reads g c =
-    let t = old_tables_of (g.D.Readable.state c.args.conn.now) in
     may_both c.in_ok-head.ensures c.in_ok-lab-in-Some.ensures
-    (λ file head lab. lab_told t c.args.code.now c.in-Some.head (sym c.in-Some.is ∙ head) c.in_ok-lab-in-Some.lab lab c.kept_lab.result c.kept_lab.ensures)
+    (λ t file head lab. lab_told t c.args.code.now c.in-Some.head (sym c.in-Some.is ∙ head) c.in_ok-lab-in-Some.lab lab c.kept_lab.result c.kept_lab.ensures)
 
 pub returns-in_ok-lab-in-Some-clause-not_kept : goal.returns-in_ok-lab-in-Some-clause-not_kept
 returns-in_ok-lab-in-Some-clause-not_kept g c =
-    let t = old_tables_of (g.D.Readable.state c.args.conn.now) in
-    λ file clean. told_both c.in_ok-head.ensures c.in_ok-lab-in-Some.ensures file clean
+    λ t file clean. told_both c.in_ok-head.ensures c.in_ok-lab-in-Some.ensures t file clean
     (λ head lab. unkept_told t c.args.code.now c.in-Some.head (sym c.in-Some.is ∙ head) c.in_ok-lab-in-Some.lab lab c.kept_lab.result c.kept_lab.ensures)
 
 pub returns-in-None-clause-reads : goal.returns-in-None-clause-reads
 returns-in-None-clause-reads g c =
-    let t = old_tables_of (g.D.Readable.state c.args.conn.now) in
-    may_and c.in_ok-head.ensures (λ file head. no_lab t c.args.code.now (sym c.in-None.is ∙ head))
+    may_and c.in_ok-head.ensures (λ t file head. no_lab t c.args.code.now (sym c.in-None.is ∙ head))

@@ -1,7 +1,6 @@
 use Rattle.std.proofs.Common.{w64, ◌∙◌, SFits, rules}
 use Rattle.std.proofs.lemmas.Int.{to_z-of_z}
 use Rattle.lab_store_columns.proofs.Queries.{if_then}
-use Rattle.lab_move_tables.specs.Reading.{old_tables_of}
 use Rattle.lab_move_rows.proofs.OldReaders.{may_both}
 use Rattle.lab_move_people.proofs.KeptLoops.{then_fails}
 use Rattle.lab_move_labs.proofs.WholesFound.{work_done}
@@ -13,8 +12,7 @@ returns-in_err-records g c = then_fails c.in_ok-forms.ensures c.records_if.ensur
 
 pub returns : goal.returns
 returns g c =
-    let t = old_tables_of (g.D.Readable.state c.args.conn.now) in
     let head = c.args.head.now in
     let id_fits : SFits w64 head.id = search rules in
     may_both (rw (to_z-of_z w64 head.id id_fits) at c.in_ok-forms.ensures) c.in_ok-records.ensures
-    (λ file forms records. if_then c.work_with.result (λ found is. is ∙ work_done t (file.rising.at Forms) head c.in_ok-forms.forms c.in_ok-records.records forms records) c.work_with.ensures)
+    (λ t file forms records. if_then c.work_with.result (λ found is. is ∙ work_done t (file.rising.at Forms) head c.in_ok-forms.forms c.in_ok-records.records forms records) c.work_with.ensures)

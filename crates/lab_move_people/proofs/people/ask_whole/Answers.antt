@@ -3,7 +3,6 @@ use Rattle.std.proofs.lemmas.Int.{to_z-of_z}
 use Rattle.lab_store_tables.specs.Meaning.{code_of}
 use Rattle.lab_store_read_people.specs.Heads.{ask_by}
 use Rattle.lab_move_tables.specs.KeptLabs.{is_theirs}
-use Rattle.lab_move_tables.specs.Reading.{old_tables_of}
 use Rattle.lab_move_rows.proofs.OldReaders.{none_read, may_end, may_and}
 use Rattle.lab_move_people.specs.Kept.{where_kept}
 use Rattle.lab_move_people.specs.Persons.{asked_by, is_kept_ask}
@@ -15,15 +14,13 @@ returns-in_err-asker-in-Some g c = may_end c.in_err-asker-in-Some.ensures c.from
 
 pub returns-in_ok-asker-in-Some : goal.returns-in_ok-asker-in-Some
 returns-in_ok-asker-in-Some g c =
-    let t = old_tables_of (g.D.Readable.state c.args.conn.now) in
     let lab = c.args.lab in
     let ask = c.in-Some.ask in
     let id_fits : SFits w64 ask.asker = search rules in
-    may_and (rw (to_z-of_z w64 lab c.ranges.lab, to_z-of_z w64 ask.asker id_fits) at c.in_ok-asker-in-Some.ensures) (λ file is.
+    may_and (rw (to_z-of_z w64 lab c.ranges.lab, to_z-of_z w64 ask.asker id_fits) at c.in_ok-asker-in-Some.ensures) (λ t file is.
     c.asked_by.ensures ∙ ap (option_map (asked_by ask)) is ∙ mapped_where (asked_by ask) (is_theirs t lab ask.asker) (code_of t ask.asker)
     ∙ sym (ap (λ o. where_kept (is_kept_ask t lab o) (option_map (ask_by t) o)) c.in-Some.is))
 
 pub returns-in-None : goal.returns-in-None
 returns-in-None g c =
-    let t = old_tables_of (g.D.Readable.state c.args.conn.now) in
-    none_read (sym (ap (λ o. where_kept (is_kept_ask t c.args.lab o) (option_map (ask_by t) o)) c.in-None.is))
+    none_read (λ t. sym (ap (λ o. where_kept (is_kept_ask t c.args.lab o) (option_map (ask_by t) o)) c.in-None.is))

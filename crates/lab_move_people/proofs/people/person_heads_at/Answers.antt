@@ -7,6 +7,6 @@ use Rattle.lab_move_people.proofs.PeopleFound.{persons_found}
 use Rattle.lab_move_people.proofs.people.person_heads_at.Goals as goal
 
 pub returns : goal.returns
-returns g c = may_and (rw (to_z-of_z w64 c.args.lab c.ranges.lab) at c.in_ok-rows.ensures) (λ file rows.
+returns g c = may_and (rw (to_z-of_z w64 c.args.lab c.ranges.lab) at c.in_ok-rows.ensures) (λ t file rows.
     if_then c.persons_of_rows.result (λ made is. is ∙ ap (map person_read) (c.deref.ensures.value ∙ rows)
-    ∙ persons_found (g.D.Readable.state c.args.conn.now).now.trees c.args.lab) c.persons_of_rows.ensures)
+    ∙ persons_found t file.lifted c.args.lab) c.persons_of_rows.ensures)

@@ -36,8 +36,8 @@ returns-in_err-push g c = kept_fails c.loop-head.invariant.kept c.in_ok-told.ens
 
 pub returns-in_default : goal.returns-in_default
 returns-in_default g c =
-    reads_as (not_kept c.loop-head.invariant.kept c.in-Some.ensures.steps.0 c.in_ok-told.ensures c.in_default.is) (λ found is. rw (to_z-of_z w64 c.args.lab c.ranges.lab) at is)
+    reads_as (not_kept c.loop-head.invariant.kept c.in-Some.ensures.steps.0 c.in_ok-told.ensures c.in_default.is) (λ t found is. rw (to_z-of_z w64 c.args.lab c.ranges.lab) at is)
 
 pub returns : goal.returns
 returns g c =
-    reads_as (all_kept c.loop-head.invariant.kept (none_left _ (sym c.loop-head.invariant.counted ∙ c.in-None.ensures.steps.0))) (λ found is. rw (to_z-of_z w64 c.args.lab c.ranges.lab) at is)
+    reads_as (all_kept c.loop-head.invariant.kept (none_left _ (sym c.loop-head.invariant.counted ∙ c.in-None.ensures.steps.0))) (λ t found is. rw (to_z-of_z w64 c.args.lab c.ranges.lab) at is)

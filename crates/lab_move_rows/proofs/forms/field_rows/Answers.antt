@@ -2,10 +2,9 @@ use Rattle.std.proofs.Common.{w64}
 use Rattle.std.proofs.lemmas.Int.{to_z-of_z}
 use Rattle.lab_move_rows.proofs.OldReaders.{rows_read}
 use Rattle.lab_move_rows.proofs.OldTexts.{field_means}
-use Rattle.lab_move_rows.proofs.OldExact.{field_read}
 use Rattle.lab_move_rows.proofs.forms.field_rows.Goals as goal
 
 pub returns : goal.returns
 returns g c =
     rows_read field_means.read (rw (to_z-of_z w64 c.args.form c.ranges.form) at c.rows_by_one.ensures)
-    (λ rows. field_read _ _ c.args.form rows.items)
+    (λ t file rows. file.fields c.args.form rows.items)

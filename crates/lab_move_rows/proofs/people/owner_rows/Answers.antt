@@ -2,10 +2,9 @@ use Rattle.std.proofs.Common.{w64}
 use Rattle.std.proofs.lemmas.Int.{to_z-of_z}
 use Rattle.lab_move_rows.proofs.OldReaders.{rows_read}
 use Rattle.lab_move_rows.proofs.OldTexts.{owner_means}
-use Rattle.lab_move_rows.proofs.OldExact.{owner_read}
 use Rattle.lab_move_rows.proofs.people.owner_rows.Goals as goal
 
 pub returns : goal.returns
 returns g c =
     rows_read owner_means.read (rw (to_z-of_z w64 c.args.id c.ranges.id) at c.rows_by_one.ensures)
-    (λ rows. owner_read _ _ c.args.id rows.items)
+    (λ t file rows. file.owner c.args.id rows.items)

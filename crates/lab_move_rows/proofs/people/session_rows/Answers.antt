@@ -2,10 +2,9 @@ use Rattle.std.proofs.Common.{w64}
 use Rattle.std.proofs.lemmas.Int.{to_z-of_z}
 use Rattle.lab_move_rows.proofs.OldReaders.{rows_read}
 use Rattle.lab_move_rows.proofs.OldTexts.{session_means}
-use Rattle.lab_move_rows.proofs.OldExact.{session_read}
 use Rattle.lab_move_rows.proofs.people.session_rows.Goals as goal
 
 pub returns : goal.returns
 returns g c =
     rows_read session_means.read (rw (to_z-of_z w64 c.args.lab c.ranges.lab) at c.rows_by_one.ensures)
-    (λ rows. session_read _ _ c.args.lab rows.items)
+    (λ t file rows. file.sessions c.args.lab rows.items)

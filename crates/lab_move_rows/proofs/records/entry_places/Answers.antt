@@ -2,10 +2,9 @@ use Rattle.std.proofs.Common.{w64}
 use Rattle.std.proofs.lemmas.Int.{to_z-of_z}
 use Rattle.lab_move_rows.proofs.OldReaders.{rows_read}
 use Rattle.lab_move_rows.proofs.OldTexts.{entry_place_means}
-use Rattle.lab_move_rows.proofs.OldExact.{entry_places_read}
 use Rattle.lab_move_rows.proofs.records.entry_places.Goals as goal
 
 pub returns : goal.returns
 returns g c =
     rows_read entry_place_means.read (rw (to_z-of_z w64 c.args.version c.ranges.version) at c.rows_by_one.ensures)
-    (λ rows. entry_places_read _ _ c.args.version rows.items)
+    (λ t file rows. file.entry_places c.args.version rows.items)

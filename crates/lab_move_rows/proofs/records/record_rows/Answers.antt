@@ -2,10 +2,9 @@ use Rattle.std.proofs.Common.{w64}
 use Rattle.std.proofs.lemmas.Int.{to_z-of_z}
 use Rattle.lab_move_rows.proofs.OldReaders.{rows_read}
 use Rattle.lab_move_rows.proofs.OldTexts.{filed_means}
-use Rattle.lab_move_rows.proofs.OldExact.{filed_read}
 use Rattle.lab_move_rows.proofs.records.record_rows.Goals as goal
 
 pub returns : goal.returns
 returns g c =
     rows_read filed_means.read (rw (to_z-of_z w64 c.args.lab c.ranges.lab) at c.rows_by_one.ensures)
-    (λ rows. filed_read _ _ c.args.lab rows.items)
+    (λ t file rows. file.records c.args.lab rows.items)

@@ -2,10 +2,9 @@ use Rattle.std.proofs.Common.{w64}
 use Rattle.std.proofs.lemmas.Int.{to_z-of_z}
 use Rattle.lab_move_rows.proofs.OldReaders.{rows_read}
 use Rattle.lab_move_rows.proofs.OldTexts.{version_means}
-use Rattle.lab_move_rows.proofs.OldExact.{version_read}
 use Rattle.lab_move_rows.proofs.records.version_rows.Goals as goal
 
 pub returns : goal.returns
 returns g c =
     rows_read version_means.read (rw (to_z-of_z w64 c.args.kept c.ranges.kept) at c.rows_by_one.ensures)
-    (λ rows. version_read _ _ c.args.kept rows.items)
+    (λ t file rows. file.versions c.args.kept rows.items)

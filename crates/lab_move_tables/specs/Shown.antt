@@ -1,4 +1,4 @@
--- The rows that each query shows of the tables, in its order (ISO/IEC 9075-2, ORDER BY).
+-- The rows that each question is to show of the tables, in its order (ISO/IEC 9075-2, ORDER BY).
 use Rattle.std.specs.Prelude.{ℕ, ℤ, List, [], ◌∷◌, map, filter}
 use Rattle.std.specs.declared.cmp.Ordering.{Ordering}
 use Rattle.std.specs.Ordering.{int_eq, nat_cmp}
