@@ -7,9 +7,7 @@ use Rattle.std.specs.Str.{bytes_eq}
 use Rattle.lab_program_outside.specs.declared.faults.ServerFault.{ServerFault}
 use Rattle.lab_program_outside.specs.declared.faults.ServerFault.TheVariants.{Write}
 use Rattle.lab_program_serve.specs.Texts.{listening_line, IsPrinted}
-use Rattle.lab_forms_texts.specs.declared.refusals.Fault.TheVariants.{Refused, Memory}
-use Rattle.lab_records_kept.specs.declared.faults.BadStore.{BadStore}
-use Rattle.lab_program_serve.specs.Visits.{AreCounted, IsNoRefusal, is_unavailable}
+use Rattle.lab_program_serve.specs.Visits.{AreCounted, is_unavailable}
 
 port : decimal 8080 ≡ codes "8080"
 port = decimal-digits_of 8080 (lit< tt) (lit< tt) ∙ refl
@@ -30,11 +28,7 @@ pub known_counted : AreCounted {F = ServerFault} (Ok tt) 0 []
     × (AreCounted {F = ServerFault} (Ok tt) 1 [] → ⊥)
 known_counted = (refl, λ counted. true≢false (ap (λ (number : ℕ). number == 0) counted))
 
--- behind which replies a keeper is asked whether it answers, and what it may answer
+-- behind which replies a keeper is asked whether it answers
 pub known_unavailable : (is_unavailable (codes "HTTP/1.1 503 Service Unavailable\r\n") ≡ true)
     × (is_unavailable (codes "HTTP/1.1 200 OK\r\n") ≡ false) × (is_unavailable [] ≡ false)
 known_unavailable = (refl, refl, refl)
-
-pub known_refusal : (fault : BadStore) → IsNoRefusal (Ok tt) × IsNoRefusal (Err Memory)
-    × (IsNoRefusal (Err (Refused fault)) → ⊥)
-known_refusal fault = (tt, tt, λ no. no)
