@@ -19,8 +19,7 @@ returns-in_default-clause-ends g c = (
 pub returns-clause-ends : goal.returns-clause-ends
 returns-clause-ends g c =
     let opened = kept_so (IsOpened g.H.Disk.Store (g.H.Shelf.holds c.args.host.now.shelf c.args.path.now)) c.in_ok-conn.conn c.new.result
-    c.in-Ok.desk.keeper c.in-Ok.ensures.keeper c.new.ensures c.in_ok-conn.ensures.opened in
-    (
+    c.in-Ok.desk.keeper c.in-Ok.ensures.keeper c.new.ensures c.in_ok-conn.ensures.opened in (
       c.in-Ok.desk.keeper,
       c.found_over-done.new.desk.keeper,
       opened,
