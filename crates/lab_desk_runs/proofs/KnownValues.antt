@@ -101,7 +101,7 @@ front start held tick refusal reply made = record {
 -- what is said of a crash is said there: no fault had shut the keeper before the last event
 pub known_live : (start : Meaning) (tick : Tick) (refusal : RequestRefusal) →
     IsLiveToLast (opened start) (shut start tick refusal) (true ∷ false ∷ [])
-known_live start tick refusal = inr (tt, refl, tt)
+known_live start tick refusal = inr (tt, (refl, tt))
 
 pub known_left : (start : Meaning) (tick : Tick) (refusal : RequestRefusal) →
     LeavesRun (IsLiveToLast (opened start) (shut start tick refusal) (true ∷ false ∷ []))
@@ -114,8 +114,9 @@ known_left start tick refusal = record {
     | inr made ↦ inr (inl (front start held tick refusal [] made))
   ];
   safe = λ was safe. tt;
-  left_within = λ was left held may. may.1.0;
-  left_releasing = λ was releasing left held may. may.1.1;
+  left_within = λ was left held may. may.1;
+  left_releasing = λ was releasing left held may. may.2;
+}
 
 -- and the next start finds it: over both, each laboratory is its own machine alone
 abbrev one_start : Meaning → Tick → RequestRefusal → List ℕ → Start
@@ -136,7 +137,7 @@ known_starts start tick refusal reply = (
     record {
       told = record { events_are = refl; taken_are = refl };
       alone = λ code. refl;
-      keeps = (λ code. follows_itself (start code), λ code. follows_itself (start code), tt);
+      keeps = (λ code. follows_itself (start code), (λ code. follows_itself (start code), tt));
     },
     record {
       handled = ran tick refusal [] false;

@@ -88,10 +88,6 @@ same_all : (Holds : Lab → Type 0) (one other : Meaning) → SameMeaning one ot
     OfAll Holds one → OfAll Holds other
 same_all Holds one other same holds code = subst (WhereThere Holds) (sym (same code)) (holds code)
 
-same_all_back : (Holds : Lab → Type 0) (one other : Meaning) → SameMeaning one other →
-    OfAll Holds other → OfAll Holds one
-same_all_back Holds one other same holds code = subst (WhereThere Holds) (same code) (holds code)
-
 begins_ready : {D : Type 0} {g : DiskOf D} (first : Meaning) (work : Work D g) →
     Begins first work → StandsReady work
 begins_ready first work begins = record {

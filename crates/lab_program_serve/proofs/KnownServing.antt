@@ -132,7 +132,7 @@ known_service start tick asked = record {
       }))
     ];
     safe = λ live safe. tt;
-    left_within = λ live left held may. may.1.0;
-    left_releasing = λ live releasing left held may. may.1.1;
+    left_within = λ live left held may. may.1;
+    left_releasing = λ live releasing left held may. may.2;
   };
 }
