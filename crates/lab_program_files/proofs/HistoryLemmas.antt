@@ -1,5 +1,5 @@
 -- A history goes on by each task: its events are a run, and the next task finds what its stop left.
-use Rattle.std.proofs.Common.{◌≡◌, ◌∙◌, ℕ, List, [], ◌∷◌, Option, ap, ap₂, true, inl, inr, refl, subst, sym}
+use Rattle.std.proofs.Common.{◌≡◌, ◌∙◌, List, [], ◌∷◌, None, ap, ap₂, true, inl, inr, refl, subst, sym}
 use Rattle.std.specs.Prelude.{◌⊎◌, IsTrue, Result, Ok, Err}
 use Rattle.std.proofs.Math.Logic.{∥∥₁_elim, ∥∥₁_map}
 use Rattle.std.proofs.lemmas.Bool.{false≢true}
