@@ -1,6 +1,6 @@
 -- A history goes on by each task: its events are a run, and the next task finds what its stop left.
 use Rattle.std.proofs.Common.{◌≡◌, ◌∙◌, List, [], ◌∷◌, None, ap, ap₂, true, inl, inr, refl, subst, sym}
-use Rattle.std.specs.Prelude.{◌⊎◌, IsTrue, Result, Ok, Err}
+use Rattle.std.specs.Prelude.{IsTrue}
 use Rattle.std.proofs.Math.Logic.{∥∥₁_elim, ∥∥₁_map}
 use Rattle.std.proofs.lemmas.Bool.{false≢true}
 use Rattle.sqlite_disk.specs.declared.Disk.{Ghosts as DiskOf}
@@ -10,12 +10,12 @@ use Rattle.sqlite_schema.specs.declared.schema.Schema.{Schema}
 use Rattle.sqlite_store.specs.declared.store.FileStore.{FileStore}
 use Rattle.sqlite.specs.Effect.{Database}
 use Rattle.sqlite.specs.Files.{file_state, over_files}
-use Rattle.sqlite.specs.Held.{Held, state}
+use Rattle.sqlite.specs.Held.{Held}
 use Rattle.sqlite.specs.State.{HasCleanDisk, State}
 use Rattle.sqlite.proofs.Theorems.{next_run}
 use Rattle.lab_records_kept.specs.declared.labs.Lab.{Lab}
 use Rattle.lab_records_kept.specs.Limits.{IsWithin}
-use Rattle.lab_records_kept.specs.Worlds.{Given, Meaning, Passes, SameMeaning, World}
+use Rattle.lab_records_kept.specs.Worlds.{Meaning, Passes, SameMeaning}
 use Rattle.lab_records_laws.specs.Runs.{IsReleasing}
 use Rattle.lab_records_laws.specs.Stepping.{WhereThere}
 use Rattle.lab_store_tables.specs.Meaning.{meaning}
@@ -26,12 +26,12 @@ use Rattle.lab_store_tables.specs.WellKept.{IsWellKept}
 use Rattle.lab_store_tables.proofs.Tests.{kept_by_tests}
 use Rattle.lab_store_files.specs.NewFiles.{IsNewFile, new_tables}
 use Rattle.lab_store_files.specs.Schemas.{is_taken as is_named}
-use Rattle.lab_desk_runs.specs.Keeping.{AreReleasing, AreWithin, GivenWithin, LeavesOnly, OfAll}
+use Rattle.lab_desk_runs.specs.Keeping.{GivenWithin, LeavesOnly, OfAll}
 use Rattle.lab_desk_runs.specs.Runs.{Handled}
-use Rattle.lab_desk_runs.specs.Starts.{AreStarts, IsAloneAt, Start, left_by, machine_after}
+use Rattle.lab_desk_runs.specs.Starts.{AreStarts, Start, left_by}
 use Rattle.lab_desk_runs.proofs.Leaving.{same_then}
 use Rattle.lab_desk_runs.proofs.Starting.{starts_alone}
-use Rattle.lab_program_shelves.specs.Files.{AreHeldIn, Finds, IsFound, IsNew, IsNewFrom, IsOpened, IsOursFrom, LeavesShown}
+use Rattle.lab_program_shelves.specs.Files.{AreHeldIn, IsFound, IsOpened, IsOursFrom, LeavesShown}
 use Rattle.lab_program_files.specs.FileWorlds.{file_world}
 use Rattle.lab_program_files.specs.Histories.{AreDone, AreEventsOf, AreStartsOf, Begins, Copied, Does, Founded, GoesOnAlone, IsDone, IsHistory, IsTaskRun, Moved, Refused, Reopens, Served, Task, Work, founding_refused, last_of, world_left, world_opened}
 use Rattle.lab_program_files.specs.Starts.{IsRunOver, founding_answered, start_of}
