@@ -148,6 +148,7 @@ module _ {S A : Type 0} (keeper : Ghosts S) (old new : S) (tick : Tick) (asked :
             kept.formed did.crash;
         left_releasing = asked_leaves_releasing (keeper.world old) (keeper.world new) tick asked
             did.crash;
+        again = kept.ends.shuts honest reached;
       }
 
   pub asked_so : (answered : Result A (Fault BadStore)) (items : A → List ℕ) (is_taken : Bool)

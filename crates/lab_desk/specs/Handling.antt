@@ -74,7 +74,8 @@ module _ {S : Type 0} (keeper : Ghosts S) (old new : S) (request : Handling) whe
     -- what stays true: each laboratory is within its limits, is releasing and legible where it was,
     -- and keeps what was; the tables are well kept, and those that a crash leaves, where they were
     -- (`within`, `releasing`, `legible`, `keeps`, `reached`, `safe`); so are the laboratories in
-    -- these (`left_within`, `left_releasing`)
+    -- these (`left_within`, `left_releasing`); and a keeper that was live may be asked again, also
+    -- where the request was refused, or its store failed in this call (`again`)
     pub stays : GivenWithin before after (Stays before after)
     pub passes : Passes before after
     -- a copy that was replied is sound, where every laboratory was releasing and legible

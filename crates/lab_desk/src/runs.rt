@@ -34,10 +34,10 @@ impl<S: Keeper + Drop> Desk<S> {
     /// answer, in order, and nothing else is written. The answers are so also where a fault shut
     /// the store. Each laboratory keeps what was at each event, and has in the end all that was
     /// recorded at the start: `stays` has `within`, `releasing`, `legible`, `retains`, `released`,
-    /// `reached`, `safe`, `left_within` and `left_releasing`. Where the keeper is live at the end, or
-    /// each event but the last was taken and the last one shut it, a crash then leaves what every
-    /// event that was taken made, and beside it at most one that the store refused: `leaves`, and
-    /// after a write fault `leaves_cut`.
+    /// `reached`, `safe`, `left_within`, `left_releasing` and `again`. Where the keeper is live at the
+    /// end, or each event but the last was taken and the last one shut it, a crash then leaves what
+    /// every event that was taken made, and beside it at most one that the store refused: `leaves`,
+    /// and after a write fault `leaves_cut`.
     ///
     /// # Errors
     /// That memory ran out for the list that is told, made first: nothing is handled or written. A

@@ -9,7 +9,7 @@ use Rattle.lab_records_kept.specs.declared.needs.Slice.{Slice}
 use Rattle.lab_records_kept.specs.declared.changes.Change.{Change}
 use Rattle.lab_records_kept.specs.Changes.{ChangesFit, changed_in}
 use Rattle.lab_records_kept.specs.Parts.{part, part_of}
-use Rattle.lab_records_kept.specs.Worlds.{World, Meaning, SameMeaning, SetsOne, Changes}
+use Rattle.lab_records_kept.specs.Worlds.{World, Given, Meaning, SameMeaning, SetsOne, Shuts, Changes}
 use Rattle.lab_forms_texts.specs.declared.refusals.Fault.{Fault}
 use Rattle.lab_records_kept.specs.declared.faults.BadStore.{BadStore}
 use Rattle.lab_forms_texts.specs.declared.refusals.Fault.TheVariants.{Refused, Memory}
@@ -24,6 +24,7 @@ use Rattle.lab_wire.specs.declared.replies.Answer.TheVariants.{Replied}
 use Rattle.lab_wire.specs.Replies.{reply_text}
 use Rattle.lab_desk_requests.specs.Calls.{Ends, Loads}
 use Rattle.lab_desk_runs.specs.Requests.{changes_for, is_none, is_idle, Builds}
+use Rattle.lab_desk_runs.proofs.Lasting.{shuts_on}
 
 -- a change is none where there is no change
 pub none_is : (changes : List Change) → IsTrue (is_none changes) → changes ≡ []
@@ -140,18 +141,35 @@ pub none_changed : (lab : Option Lab) (tick : Tick) (instruction : Instruction) 
 none_changed None tick instruction none = (tt, refl)
 none_changed (Some lab) tick instruction none = absurd (cc)
 
+-- a keeper that both shut had a fault in one of them
+shut_on : {A B : Type 0} (old mid new : World) (rests rested : Type 0) (value : B)
+    (result : Result A (Fault BadStore)) → Loads old mid rests (Ok value) →
+    Ends mid new rested result → Given old new (Shuts old new)
+shut_on old mid new rests rested value result loads ends honest reached =
+    let earlier = ends.passes.honest honest in
+    shuts_on old mid new (loads.shuts earlier reached)
+    (ends.shuts honest (loads.reached earlier reached))
+
 -- a call after one that changed nothing ends for both as it ends by itself
 pub ends_on : {A B : Type 0} (old mid new : World) (rests rested both : Type 0) (value : B)
     (result : Result A (Fault BadStore)) → Loads old mid rests (Ok value) →
     Ends mid new rested result → (rests → rested → both) → Ends old new both result
-ends_on old mid new rests rested both value (Ok one) loads ends on = search rules
-ends_on old mid new rests rested both value (Err (Refused _)) loads ends on = record {
+ends_on old mid new rests rested both value (Ok one) loads ends on = record {
+  err = search rules;
+  rows_err = search rules;
+  lives = search rules;
+  fault = search rules;
+  shuts = shut_on old mid new rests rested value (Ok one) loads ends;
+  passes = search rules;
+}
+ends_on old mid new rests rested both value (Err (Refused why)) loads ends on = record {
   err = λ honest reached live code. ends.err honest
       (loads.reached (ends.passes.honest honest) reached) live code
       ∙ loads.same (ends.passes.honest honest) reached (ends.passes.live honest live) code;
   rows_err = search rules;
   lives = search rules;
   fault = search rules;
+  shuts = shut_on old mid new rests rested value (Err (Refused why)) loads ends;
   passes = search rules;
 }
 ends_on old mid new rests rested both value (Err Memory) loads ends on = record {
@@ -161,6 +179,7 @@ ends_on old mid new rests rested both value (Err Memory) loads ends on = record 
   rows_err = search rules;
   lives = search rules;
   fault = search rules;
+  shuts = shut_on old mid new rests rested value (Err Memory) loads ends;
   passes = search rules;
 }
 

@@ -5,7 +5,7 @@ use Rattle.lab_records_kept.specs.declared.changes.Change.{Change}
 use Rattle.lab_forms_texts.specs.declared.refusals.Fault.{Fault}
 use Rattle.lab_records_kept.specs.declared.faults.BadStore.{BadStore}
 use Rattle.lab_records_kept.specs.Changes.{ChangesFit}
-use Rattle.lab_records_kept.specs.Worlds.{World, Passes, Given, Changes, CommitsAs, IsDurable, KeeperFaultFits, Leaves, Lives, Quiet, StaysSafe}
+use Rattle.lab_records_kept.specs.Worlds.{World, Passes, Given, Changes, CommitsAs, IsDurable, KeeperFaultFits, Leaves, Lives, Quiet, Shuts, StaysSafe}
 
 -- a call that answers something or fails: after an error every laboratory means what it meant, in
 -- rows that are as they were, and the store is blamed only where it may refuse
@@ -15,6 +15,7 @@ pub record Ends {A : Type 0} (old new : World) (rests : Type 0)
   pub rows_err : Given old new (OnErr result (new.is_live → rests))
   pub lives : Given old new (OnOk result (Lives old new))
   pub fault : IfErr result (KeeperFaultFits old.may_refuse)
+  pub shuts : Given old new (Shuts old new)
   pub passes : Passes old new
 
 -- a call of `load`, which changes nothing, whatever it answers
@@ -27,6 +28,7 @@ pub record Loads {A : Type 0} (old new : World) (rests : Type 0)
   pub crash : Given old new (Quiet old new)
   pub safe : Given old new (StaysSafe old new)
   pub reached : Given old new new.is_reached
+  pub shuts : Given old new (Shuts old new)
   pub passes : Passes old new
 
 -- changes of the laboratory of the code that were made, where they fit it

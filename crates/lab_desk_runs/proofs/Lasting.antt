@@ -1,7 +1,8 @@
 -- What stays true where nothing was touched, where every laboratory means what it meant, and over
 -- one event more.
+use Rattle.std.proofs.Common.{◌≤◌, inl, inr, ℕ, arith}
 use Rattle.lab_records_kept.specs.Limits.{IsWithin}
-use Rattle.lab_records_kept.specs.Worlds.{World, Leaves, Passes, Quiet, StaysSafe}
+use Rattle.lab_records_kept.specs.Worlds.{World, HasFaulted, Leaves, Passes, Quiet, Shuts, StaysSafe}
 use Rattle.lab_records_walks.specs.Legible.{IsLegible}
 use Rattle.lab_records_laws.specs.Runs.{IsReleasing}
 use Rattle.lab_desk_runs.specs.Keeping.{AreReleasing, AreWithin, GivenWithin, LeavesOnly, Stays, StaysOn}
@@ -9,6 +10,33 @@ use Rattle.lab_desk_runs.proofs.Keeping.{left_keeps, still_keeps}
 use Rattle.lab_desk_runs.proofs.Releasing.{released_stay}
 use Rattle.lab_desk_runs.proofs.Retaining.{retained_on, still_retained}
 use Rattle.lab_desk_runs.proofs.Staying.{left_holds}
+
+-- ---- the keeper may be asked again
+
+-- nothing was asked
+pub shuts_none : (world : World) → Shuts world world
+shuts_none world = record { counts = omega arith; cause = λ live. inl live }
+
+faulted_later : (first mid last : ℕ) → HasFaulted first mid → mid ≤ last → HasFaulted first last
+faulted_later first mid last faulted later = omega (arith, faulted, later)
+
+faulted_since : (first mid last : ℕ) → first ≤ mid → HasFaulted mid last → HasFaulted first last
+faulted_since first mid last later faulted = omega (arith, later, faulted)
+
+-- one call and then another
+pub shuts_on : (first mid last : World) → Shuts first mid → Shuts mid last → Shuts first last
+shuts_on first mid last one other = record {
+  counts = omega (arith, one.counts, other.counts);
+  cause = λ live. elim (one.cause live) [
+    | inl still ↦ elim (other.cause still) [
+      | inl yet ↦ inl yet
+      | inr faulted ↦ inr (faulted_since first.faults mid.faults last.faults one.counts faulted)
+    ]
+    | inr faulted ↦ inr (faulted_later first.faults mid.faults last.faults faulted other.counts)
+  ];
+}
+
+-- ---- what stays
 
 -- nothing was touched
 pub still_stays : (world : World) → world.is_reached → Stays world world
@@ -21,6 +49,7 @@ still_stays world reached = record {
   legible = λ legible. legible;
   left_within = λ live within left. left;
   left_releasing = λ live releasing left. left;
+  again = shuts_none world;
 }
 
 -- every laboratory means what it meant
@@ -28,8 +57,8 @@ pub left_stays : (old new : World) → (new.is_live → old.is_live) → Leaves 
     new.is_reached → StaysSafe old new →
     (old.is_live → AreWithin old → LeavesOnly IsWithin old → LeavesOnly IsWithin new) →
     (old.is_live → AreReleasing old → LeavesOnly IsReleasing old → LeavesOnly IsReleasing new) →
-    Stays old new
-left_stays old new back left reached safe left_within left_releasing = record {
+    Shuts old new → Stays old new
+left_stays old new back left reached safe left_within left_releasing again = record {
   within = left_holds IsWithin old new back left;
   releasing = left_holds IsReleasing old new back left;
   keeps = left_keeps old new left;
@@ -38,14 +67,15 @@ left_stays old new back left reached safe left_within left_releasing = record {
   legible = left_holds IsLegible old new back left;
   left_within = left_within;
   left_releasing = left_releasing;
+  again = again;
 }
 
 -- so it is where a crash leaves no more than before
 pub quiet_stays : (old new : World) → (new.is_live → old.is_live) → Leaves old new →
-    new.is_reached → StaysSafe old new → Quiet old new → Stays old new
-quiet_stays old new back left reached safe quiet = left_stays old new back left reached safe
+    new.is_reached → StaysSafe old new → Quiet old new → Shuts old new → Stays old new
+quiet_stays old new back left reached safe quiet again = left_stays old new back left reached safe
     (λ live within before held may. before held (quiet live held may))
-    (λ live releasing before held may. before held (quiet live held may))
+    (λ live releasing before held may. before held (quiet live held may)) again
 
 -- before the first event
 pub stays_first : (world : World) → AreWithin world → world.is_reached → StaysOn world world
@@ -59,6 +89,7 @@ stays_first world within reached = record {
   legible = λ legible. legible;
   left_within = λ live left. left;
   left_releasing = λ live releasing left. left;
+  again = shuts_none world;
 }
 
 -- one event more
@@ -79,6 +110,7 @@ stays_more old mid new back so next =
       left_releasing = λ live releasing left.
           next.left_releasing (back live) (so.releasing releasing)
           (so.left_releasing (back live) releasing left);
+      again = shuts_on old mid new so.again next.again;
     }
 
 -- so it is by what a call says of the event

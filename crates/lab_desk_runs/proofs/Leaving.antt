@@ -521,3 +521,45 @@ module _ {S : Type 0} (keeper : Ghosts S) where
         left_within = λ is. so.leaves.left_within (was is);
         left_releasing = λ is. so.leaves.left_releasing (was is);
       }
+
+  -- ---- a run of which each event found a live keeper, where the first one did
+
+  pub record LeavesAwake (old new : S) (events : List Happening) (taken : List Bool) : Type 0 where
+    pub so : LeavesSoFar old new events taken
+    pub woken : (keeper.world old).is_live → (keeper.world so.before).is_live
+
+  pub awake_none : (kept : S) (events : List Happening) → LeavesAwake kept kept (take 0 events) []
+  unfolding leaves_none
+  awake_none kept events = record { so = leaves_none kept events; woken = λ live. live }
+
+  pub awake_on : (old mid new : S) (events next : List Happening) (taken nexts : List Bool)
+      (event : Happening) (told : Bool) (awake : LeavesAwake old mid events taken) →
+      IsTold next nexts (awake.so.leaves.handled ++ as_told event told ∷ []) →
+      ComesNext old mid new event told →
+      ((keeper.world old).is_live → (keeper.world mid).is_live) → LeavesAwake old new next nexts
+  unfolding leaves_on
+  awake_on old mid new events next taken nexts event told awake are comes woken = record {
+    so = leaves_on old mid new events next taken nexts event told awake.so are comes;
+    woken = woken;
+  }
+
+  pub awake_between : (old mid new : S) (events : List Happening) (taken : List Bool) →
+      LeavesAwake old mid events taken → ComesBetween old mid new →
+      ((keeper.world old).is_live → (keeper.world mid).is_live) → LeavesAwake old new events taken
+  unfolding leaves_between
+  awake_between old mid new events taken awake comes woken = record {
+    so = leaves_between old mid new events taken awake.so comes;
+    woken = woken;
+  }
+
+  pub leaves_awake : (old new : S) (events : List Happening) (taken : List Bool) →
+      LeavesAwake old new events taken →
+      LeavesRun (keeper.world old).is_live (keeper.world old) (keeper.world new) events taken
+  leaves_awake old new events taken awake = record {
+    handled = awake.so.leaves.handled;
+    told = awake.so.leaves.told;
+    left = λ live. awake.so.leaves.left (awake.woken live);
+    safe = λ live. awake.so.leaves.safe (awake.woken live);
+    left_within = λ live. awake.so.leaves.left_within (awake.woken live);
+    left_releasing = λ live. awake.so.leaves.left_releasing (awake.woken live);
+  }

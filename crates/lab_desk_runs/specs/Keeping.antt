@@ -8,7 +8,7 @@ use Rattle.lab_records_kept.specs.declared.records.Version.{Version}
 use Rattle.lab_records_kept.specs.Keeping.{Extends, IsPrefix, KeepsPersons, KeepsSession, KeepsForms, KeepsRecord, Keeps}
 use Rattle.lab_records_kept.specs.Limits.{IsWithin}
 use Rattle.lab_records_kept.specs.Values.{version_state}
-use Rattle.lab_records_kept.specs.Worlds.{World, Meaning, Given, StaysSafe}
+use Rattle.lab_records_kept.specs.Worlds.{World, Meaning, Given, Shuts, StaysSafe}
 use Rattle.lab_records_walks.specs.Legible.{IsLegible}
 use Rattle.lab_records_laws.specs.Runs.{IsReleasing}
 use Rattle.lab_records_laws.specs.Stepping.{HoldsOf, WhereThere}
@@ -95,7 +95,8 @@ ReleasedFrom old new = new.is_live → EachFollows KeepsReleased old.meaning new
 
 -- ---- all that stays true
 
--- over one event; also of what a crash leaves
+-- over one event; also of what a crash leaves, and that the keeper may be asked again: also after want
+-- of memory or a refusal it is live, where it was, or its store failed in that call
 pub record Stays (old new : World) : Type 0 where
   pub within : AreWithin old → AreWithin new
   pub releasing : AreReleasing old → AreReleasing new
@@ -106,11 +107,12 @@ pub record Stays (old new : World) : Type 0 where
   pub left_within : old.is_live → AreWithin old → LeavesOnly IsWithin old → LeavesOnly IsWithin new
   pub left_releasing : old.is_live → AreReleasing old → LeavesOnly IsReleasing old →
       LeavesOnly IsReleasing new
+  pub again : Shuts old new
 
 -- over any number of them, from laboratories that are within their limits: each has all that was
 -- recorded, and what was released is as it was; and while no fault shuts the keeper, a crash leaves
 -- well-kept tables alone, and in them laboratories that are within their limits, bound and under
--- dual control
+-- dual control; and the keeper may be asked again, or its store failed in one of them
 pub record StaysOn (old new : World) : Type 0 where
   pub within : AreWithin new
   pub releasing : AreReleasing old → AreReleasing new
@@ -122,3 +124,4 @@ pub record StaysOn (old new : World) : Type 0 where
   pub left_within : new.is_live → LeavesOnly IsWithin old → LeavesOnly IsWithin new
   pub left_releasing : new.is_live → AreReleasing old → LeavesOnly IsReleasing old →
       LeavesOnly IsReleasing new
+  pub again : Shuts old new

@@ -1,8 +1,7 @@
 -- What the first bytes of an input found is what all of it founds, where they are more than a body may have.
 use Rattle.std.proofs.Common.{◌≡◌, ℕ, List, Option, Some, None, Result, Ok, Err, ap₂, lit<, subst, take}
-use Rattle.std.specs.Prelude.{IfOk, IfSome, IsSome, option_map}
+use Rattle.std.specs.Prelude.{IfOk, IfSome, option_map}
 use Rattle.lab_records_kept.specs.declared.keeper.Keeper.{Ghosts as KeeperOf}
-use Rattle.lab_records_kept.specs.Worlds.{Given}
 use Rattle.lab_desk_foundings.specs.Faults.{FoundFaultFits}
 use Rattle.lab_forms_texts.specs.declared.tick.Tick.{Tick}
 use Rattle.lab_desk_foundings.specs.Foundings.{Body, Founds, IsNewborn, founding_in}
@@ -15,7 +14,7 @@ use Rattle.lab_program_outside.specs.declared.faults.ServerFault.TheVariants.{Re
 use Rattle.lab_program_shelves.specs.declared.faults.OpenFault.{OpenFault}
 use Rattle.lab_program_serve.specs.Rehearsals.{rehearsal_tick}
 use Rattle.lab_program_serve.specs.RehearseTask.{FoundsBy, IsRehearsal}
-use Rattle.lab_program_files.specs.Foundings.{Ends, EndsFounding, EndsOver, FoundTask, IsFoundedAt, IsFounding}
+use Rattle.lab_program_files.specs.Foundings.{Ends, EndsFounding, EndsOver, FoundTask, IsFoundedAt, IsFounding, IsRefusedAt}
 use Rattle.lab_program.specs.Laboratories.{front_of}
 
 -- what is said of the first bytes of an input, said of the input
@@ -51,9 +50,7 @@ module _ {S : Type 0} (keeper : KeeperOf S) (drawing : Drawing) (code : List ℕ
   ends_as one other old new (Err (Founding fault)) same ends = (
     ends.0,
     ends.1,
-    subst (λ (body : Body). FoundFaultFits (keeper.world old).may_refuse (Given (keeper.world old) (keeper.world new)
-        (IsSome ((keeper.world old).meaning code))) code ends.0 body fault) same ends.2,
-    ends.3,
+    subst (λ (body : Body). IsRefusedAt keeper old new code ends.0 body fault) same ends.2,
   )
   ends_as one other old new (Err (Server Read)) same ends = ends
   ends_as one other old new (Err (Server Write)) same ends =
@@ -71,7 +68,8 @@ module _ {S : Type 0} (keeper : KeeperOf S) (drawing : Drawing) (code : List ℕ
   over_whole : (opened : S → Type 0) (ending : Result (Result (Unit {0}) RehearsalFault) OpenFault)
       → IfOk ending (EndsOver keeper (task_of drawing code (front_of input)) opened)
       → IfOk ending (EndsOver keeper (task_of drawing code input) opened)
-  over_whole opened (Ok ending) over = (over.0, over.1, over.2, ends_whole over.0 over.1 ending over.3)
+  over_whole opened (Ok ending) over =
+      (over.0, over.1, over.2, ends_whole over.0 over.1 ending over.3, over.4)
   over_whole opened (Err fault) over = tt
 
   -- a founding from the first bytes of an input is one from all of it

@@ -1,12 +1,11 @@
 -- How a founding over a keeper ends, and what is printed of it.
 use Rattle.std.proofs.Common.{◌≡◌, ℕ, List, Option, None, Some, refl, subst, sym}
-use Rattle.std.specs.Prelude.{Err, IfErr, IfSome, IsSome, Ok, Result}
+use Rattle.std.specs.Prelude.{Err, IfErr, IfSome, Ok, Result}
 use Rattle.std.specs.Io.KnownBytes.{Keeps}
 use Rattle.lab_forms_texts.specs.declared.tick.Tick.{Tick}
 use Rattle.lab_records_kept.specs.declared.keeper.Keeper.{Ghosts}
-use Rattle.lab_records_kept.specs.Worlds.{Given, IsDurable, Leaves, Lives}
+use Rattle.lab_records_kept.specs.Worlds.{Given, IsDurable, Lives}
 use Rattle.lab_desk_foundings.specs.declared.faults.FoundFault.{FoundFault}
-use Rattle.lab_desk_foundings.specs.Faults.{FoundFaultFits}
 use Rattle.lab_desk_foundings.specs.Foundings.{Founds, founding_in}
 use Rattle.lab_desk_runs.specs.Keeping.{Stays}
 use Rattle.lab_program_outside.specs.declared.faults.ServerFault.{ServerFault}
@@ -16,7 +15,7 @@ use Rattle.lab_program_outside.proofs.ReadLemmas.{for_known, known_as}
 use Rattle.lab_program_outside.specs.declared.faults.RehearsalFault.{RehearsalFault as FoundingFault}
 use Rattle.lab_program_outside.specs.declared.faults.RehearsalFault.TheVariants.{Founding, Server}
 use Rattle.lab_program_outside.specs.Sources.{Drawing, IsDrawn, drawing_of}
-use Rattle.lab_program_files.specs.Foundings.{Ends, EndsFounding, FoundTask, IsFounded, Prints}
+use Rattle.lab_program_files.specs.Foundings.{Ends, EndsFounding, FoundTask, IsFounded, IsRefusedAt, Prints}
 
 -- ---- what is printed
 
@@ -58,15 +57,14 @@ module _ {S : Type 0} (keeper : Ghosts S) (drawing : Drawing) (code : List ℕ) 
   -- the founding was refused
   pub ends_refused : (known : Option (List ℕ)) (read bytes : List ℕ) (old new : S) (tick : Tick)
       (fault : FoundFault) → IsDrawn drawing tick → read ≡ bytes
-      → IfSome known (λ all. bytes ≡ all) → FoundFaultFits (keeper.world old).may_refuse
-      (Given (keeper.world old) (keeper.world new) (IsSome ((keeper.world old).meaning code)))
-      code tick (founding_in read) fault
-      → Given (keeper.world old) (keeper.world new) (Leaves (keeper.world old) (keeper.world new))
+      → IfSome known (λ all. bytes ≡ all)
+      → Given (keeper.world old) (keeper.world new)
+      (IsRefusedAt keeper old new code tick (founding_in read) fault)
       → Ends keeper (task_of drawing code known) old new (Err (Founding fault))
-  ends_refused known read bytes old new tick fault drawn same whole fits leaves = λ honest reached.
+  ends_refused known read bytes old new tick fault drawn same whole refused = λ honest reached.
       for_known known read
       (λ all. EndsFounding keeper (task_of drawing code known) all old new (Err (Founding fault)))
-      (known_as known read bytes same whole) (tick, drawn, fits, leaves honest reached)
+      (known_as known read bytes same whole) (tick, drawn, refused honest reached)
 
   printed_so : (known : Option (List ℕ)) (bytes : List ℕ) (old new : S)
       (result : Result (Unit {0}) FoundingFault) → IfErr result (λ fault. fault ≡ Server Write) →

@@ -1,4 +1,5 @@
 pub mod FoundingLemmas
+pub mod HistoryLemmas
 pub mod KnownValues
 pub mod ServingLemmas
 pub mod StartLemmas

@@ -11,7 +11,8 @@ use Rattle.sqlite_wal.specs.Recovery.{Image}
 use Rattle.sqlite.specs.Effect.{Database}
 use Rattle.sqlite.specs.Held.{Held, state}
 use Rattle.sqlite.specs.State.{HasCleanDisk, State}
-use Rattle.lab_records_kept.specs.Worlds.{Given, Meaning, Passes, SameMeaning, World}
+use Rattle.lab_records_kept.specs.declared.faults.PlacingFault.TheVariants.{LabExists, Storage as NotStored, Memory as NoMemory}
+use Rattle.lab_records_kept.specs.Worlds.{Given, Leaves, Meaning, Passes, SameMeaning, World}
 use Rattle.lab_store_tables.specs.Meaning.{meaning}
 use Rattle.lab_store_tables.specs.Rows.{tables_in}
 use Rattle.lab_store_files.specs.NewFiles.{IsBlank, no_schema}
@@ -20,21 +21,26 @@ use Rattle.lab_store_files.specs.declared.faults.FileFault.TheVariants.{Memory, 
 use Rattle.lab_store_files.specs.Verdicts.{Answers, file_verdict, number_shown, number_verdict, shown_verdict, whole_verdict}
 use Rattle.lab_forms_texts.specs.declared.tick.Tick.{Tick}
 use Rattle.lab_records_walks.specs.Resting.{IsRead}
-use Rattle.lab_desk_foundings.proofs.Bearing.{takes_founded}
-use Rattle.lab_desk_foundings.specs.Foundings.{founded_line, founding_in}
+use Rattle.lab_desk_foundings.proofs.Bearing.{takes_founded, takes_refused}
+use Rattle.lab_desk_foundings.specs.declared.faults.FoundFault.{FoundFault}
+use Rattle.lab_desk_foundings.specs.declared.faults.FoundFault.TheVariants.{Body as OfBody, Birth as OfBirth, Placing}
+use Rattle.lab_desk_foundings.specs.Faults.{FoundFaultFits, found_fault_entry, is_taken}
+use Rattle.lab_desk_foundings.specs.Foundings.{Body, RefusesFounding, TakesFounding, founded_line, founding_in, refused_line}
 use Rattle.lab_desk_runs.specs.declared.events.Event.TheVariants.{Found}
 use Rattle.lab_desk_runs.specs.Alone.{Founding, Happening}
 use Rattle.lab_desk_runs.specs.Keeping.{AreWithin, GivenWithin}
-use Rattle.lab_desk_runs.specs.Leaving.{LeavesRun}
+use Rattle.lab_desk_runs.specs.Leaving.{IsLeftBy, LeavesRun, as_told}
 use Rattle.lab_desk_runs.specs.Runs.{Handled, IsRun}
-use Rattle.lab_desk_runs.proofs.Running.{one_founding, still_run}
+use Rattle.lab_desk_runs.proofs.Leaving.{found_leaves, left_then, settles_refused}
+use Rattle.lab_desk_runs.proofs.Running.{no_run, one_founding, still_run}
 use Rattle.lab_desk_runs.specs.Starts.{AreStarts, IsAnswered, IsStopped, Start, left_by}
-use Rattle.lab_program_shelves.specs.Files.{AreHeldIn, IsFound, IsNew, IsOpened, IsOurs}
+use Rattle.lab_program_shelves.specs.Files.{AreHeldIn, IsFound, IsNew, IsOpened, IsOurs, LeavesShown}
 use Rattle.lab_program_serve.specs.Visits.{AreVisits, GoesOn, Visit}
 use Rattle.lab_program_serve.proofs.RunLemmas.{served_run}
 use Rattle.lab_program_files.specs.FileWorlds.{file_keeper, file_rests, file_world}
-use Rattle.lab_program_files.specs.Foundings.{IsFoundedAt}
-use Rattle.lab_program_files.specs.Starts.{AreSoFar, IsRunOver, IsServedOver, start_of}
+use Rattle.lab_program_files.specs.Foundings.{IsFoundedAt, IsRefusedAt}
+use Rattle.lab_program_files.specs.Histories.{founding_refused}
+use Rattle.lab_program_files.specs.Starts.{AreSoFar, IsRunOver, IsServedOver, founding_answered, start_of}
 
 -- ---- starts
 
@@ -47,22 +53,21 @@ module _ {S : Type 0} (disk : Ghosts S) (IsHeld : Trees → Type 0) (conn : Held
       ∙ ap (λ (trees : Trees). meaning (tables_in trees) code)
       (ours.2.0 clean (ours.2.1 clean).1.0.is_open left.0 left.1)
 
-module _ {S : Type 0} (disk : Ghosts S) (opened last : Held S) (events : List Happening)
-    (taken : List Bool) (run : IsRunOver disk opened last events taken) (left : Meaning) where
+module _ {S : Type 0} (disk : Ghosts S) (opened last : Held S) (handled : List Handled)
+    (run : IsRunOver disk opened last handled) (left : Meaning) where
   -- what was answered is what each laboratory's machine alone answers
-  answered_so : IsAnswered (file_world disk opened).meaning
-      (start_of events taken (file_world disk opened).meaning left)
+  pub answered_so : IsAnswered (file_world disk opened).meaning
+      (start_of handled (file_world disk opened).meaning left)
   answered_so = record {
-    handled = run.handled;
-    told = run.told;
+    told = record { events_are = refl; taken_are = refl };
     alone = run.run.alone (file_world disk opened).meaning (λ live code. refl);
     keeps = run.run.keeps (file_world disk opened).meaning (λ live code. refl);
   }
 
   -- what a crash at the stop left, where one at the start could leave what was found alone
-  stopped_so : ((held : Meaning) → (file_world disk opened).may_leave held →
+  pub stopped_so : ((held : Meaning) → (file_world disk opened).may_leave held →
       SameMeaning (file_world disk opened).meaning held) → (file_world disk last).may_leave left →
-      IsStopped (start_of events taken (file_world disk opened).meaning left)
+      IsStopped (start_of handled (file_world disk opened).meaning left)
   stopped_so only may = record {
     handled = run.leaves.handled;
     told = run.leaves.told;
@@ -89,18 +94,18 @@ left_by_and first [] one = refl
 left_by_and first (early ∷ others) one = left_by_and early.left others one
 
 pub one_start_more : {S : Type 0} (disk : Ghosts S) (first : Meaning) (starts : List Start)
-    (opened last : Held S) (events : List Happening) (taken : List Bool) (left : Meaning) →
+    (opened last : Held S) (handled : List Handled) (left : Meaning) →
     AreSoFar first starts (file_world disk opened).meaning →
-    IsRunOver disk opened last events taken →
+    IsRunOver disk opened last handled →
     ((held : Meaning) → (file_world disk opened).may_leave held →
     SameMeaning (file_world disk opened).meaning held) → (file_world disk last).may_leave left →
     AreSoFar first
-    (starts ++ start_of events taken (file_world disk opened).meaning left ∷ []) left
-one_start_more disk first starts opened last events taken left so_far run only may =
-    let one = start_of events taken (file_world disk opened).meaning left in (
+    (starts ++ start_of handled (file_world disk opened).meaning left ∷ []) left
+one_start_more disk first starts opened last handled left so_far run only may =
+    let one = start_of handled (file_world disk opened).meaning left in (
       starts_and first starts one so_far.0 so_far.1
-          (answered_so disk opened last events taken run left)
-          (stopped_so disk opened last events taken run left only may),
+          (answered_so disk opened last handled run left)
+          (stopped_so disk opened last handled run left only may),
       λ code. sym (ap (λ (held : Meaning). held code) (left_by_and first starts one)),
     )
 
@@ -122,7 +127,7 @@ pub served_over : {S : Type 0} (disk : Ghosts S) (reply : List ℕ) (opened last
     (visits : List Visit) →
     GivenWithin (file_world disk opened) (file_world disk last)
     (AreVisits (file_keeper disk) (GoesOn (file_keeper disk)) reply opened visits last) →
-    Passes (file_world disk opened) (file_world disk last) → (file_world disk last).is_live →
+    Passes (file_world disk opened) (file_world disk last) → (file_world disk opened).is_live →
     GivenWithin (file_world disk opened) (file_world disk last)
     (IsServedOver disk opened last visits)
 served_over disk reply opened last visits are passes live within honest reached =
@@ -132,10 +137,8 @@ served_over disk reply opened last visits are passes live within honest reached 
       handled = served.handled;
       are = served.are;
       run = record {
-        handled = served.handled;
-        told = record { events_are = refl; taken_are = refl };
         run = served.run;
-        leaves = told_so (file_world disk last).is_live (file_world disk opened)
+        leaves = told_so (file_world disk opened).is_live (file_world disk opened)
             (file_world disk last) _ _ live served.leaves;
         passes = passes;
       };
@@ -147,11 +150,8 @@ module _ {S : Type 0} (disk : Ghosts S) (opened last : Held S) (code : List ℕ)
     (bytes : List ℕ) (founded : IsFoundedAt (file_keeper disk) opened last code tick bytes)
     (passes : Passes (file_world disk opened) (file_world disk last))
     (within : AreWithin (file_world disk opened)) where
-  founding : Handled
-  founding = record { event = Founding code tick bytes; taken = true; answer = founded_line code }
-
-  run_of_founding : IsRun (file_world disk opened) (file_world disk last) (founding ∷ [])
-  unfolding founding
+  run_of_founding : IsRun (file_world disk opened) (file_world disk last)
+      (founding_answered code tick bytes ∷ [])
   run_of_founding =
       one_founding (file_world disk opened) (file_world disk last) (Found code tick bytes) code tick
       bytes bytes true (founded_line code) (founded_line code) refl refl refl
@@ -161,14 +161,11 @@ module _ {S : Type 0} (disk : Ghosts S) (opened last : Held S) (code : List ℕ)
       tt refl founded.founds founded.lives refl)
       (λ refused. absurd (false≢true (sym refused)))
 
-  pub founded_over : IsRunOver disk opened last (Founding code tick bytes ∷ []) (true ∷ [])
-  unfolding founding
+  pub founded_over : IsRunOver disk opened last (founding_answered code tick bytes ∷ [])
   founded_over = record {
-    handled = founding ∷ [];
-    told = record { events_are = refl; taken_are = refl };
     run = run_of_founding;
     leaves = record {
-      handled = founding ∷ [];
+      handled = founding_answered code tick bytes ∷ [];
       told = record { events_are = refl; taken_are = refl };
       left = λ so held left. inl (λ name. founded.durable.0 held left name
           ∙ run_of_founding.after (file_world disk opened).meaning (λ live it. refl) founded.lives.1 name);
@@ -179,14 +176,98 @@ module _ {S : Type 0} (disk : Ghosts S) (opened last : Held S) (code : List ℕ)
     passes = passes;
   }
 
+-- ---- a founding that was refused
+
+-- for memory, or by the store
+refuses_so : (old new : World) (exists : Type 0) (code : List ℕ) (tick : Tick) (body : Body)
+    (fault : FoundFault) → is_taken fault ≡ false →
+    FoundFaultFits old.may_refuse exists code tick body fault → Leaves old new →
+    RefusesFounding old new code tick body (refused_line (found_fault_entry fault))
+refuses_so old new exists code tick body (OfBody refusal) refused fits same =
+    absurd (false≢true (sym refused))
+refuses_so old new exists code tick body (OfBirth refusal) refused fits same =
+    absurd (false≢true (sym refused))
+refuses_so old new exists code tick body (Placing LabExists) refused fits same =
+    absurd (false≢true (sym refused))
+refuses_so old new exists code tick body (Placing NotStored) refused fits same =
+    record { answered = inr ((fits.1, fits.0), refl); same = same }
+refuses_so old new exists code tick body (Placing NoMemory) refused fits same =
+    record { answered = inl refl; same = same }
+
+module _ {S : Type 0} (disk : Ghosts S) (opened last : Held S) (code : List ℕ) (tick : Tick)
+    (bytes : List ℕ) (fault : FoundFault)
+    (refused : IsRefusedAt (file_keeper disk) opened last code tick (founding_in bytes) fault)
+    (passes : Passes (file_world disk opened) (file_world disk last))
+    (within : AreWithin (file_world disk opened)) (live : (file_world disk opened).is_live)
+    (honest : (file_world disk last).is_honest) (reached : (file_world disk opened).is_reached) where
+  taken_so : is_taken fault ≡ true → TakesFounding (file_world disk opened) (file_world disk last)
+      code tick (founding_in bytes) (refused_line (found_fault_entry fault))
+  taken_so taken = takes_refused (file_world disk) opened last code tick (founding_in bytes)
+      (refused_line (found_fault_entry fault)) (Err fault) fault honest reached refl (taken, refl)
+      refused.fits refused.untouched refused.lives refused.same
+
+  run_of_refusal : IsRun (file_world disk opened) (file_world disk last)
+      (founding_refused code tick bytes fault ∷ [])
+  run_of_refusal =
+      one_founding (file_world disk opened) (file_world disk last) (Found code tick bytes) code tick
+      bytes bytes (is_taken fault) (refused_line (found_fault_entry fault))
+      (refused_line (found_fault_entry fault)) refl refl refl (passes.live honest) taken_so
+      (λ not. refuses_so (file_world disk opened) (file_world disk last) _ code tick
+      (founding_in bytes) fault not refused.fits refused.same)
+
+  left_refused : (held : Meaning) → (file_world disk last).may_leave held →
+      IsLeftBy (file_world disk opened).meaning (file_world disk opened).may_leave
+      (as_told (Founding code tick bytes) (is_taken fault) ∷ []) held
+  left_refused held may =
+      left_then (file_world disk opened).meaning (file_world disk opened).meaning
+      (file_world disk opened).may_leave (file_world disk opened).may_leave []
+      (Founding code tick bytes) (is_taken fault) (λ name. refl) held
+      (λ early. inr (inr (early, λ name. refl)))
+      (found_leaves (file_world disk opened) (file_world disk last) (Found code tick bytes) code tick
+      bytes bytes (is_taken fault) refl refl refused.crash (λ taken. (taken_so taken).after)
+      (λ taken. settles_refused (file_world disk) opened last (Err fault) fault refl taken
+      refused.quiet refused.same refused.untouched refused.lives) live held may)
+
+  pub refused_over : IsRunOver disk opened last (founding_refused code tick bytes fault ∷ [])
+  refused_over = record {
+    run = run_of_refusal;
+    leaves = record {
+      handled = as_told (Founding code tick bytes) (is_taken fault) ∷ [];
+      told = record { events_are = refl; taken_are = refl };
+      left = λ so. left_refused;
+      safe = λ so. refused.stays.safe live;
+      left_within = λ so. refused.stays.left_within live within;
+      left_releasing = λ so. refused.stays.left_releasing live;
+    };
+    passes = passes;
+  }
+
+-- ---- a move, over whose new file nothing more was done
+
+pub moved_over : {S : Type 0} (disk : Ghosts S) (opened last : Held S) → last ≡ opened →
+    LeavesShown (state disk opened) → Passes (file_world disk opened) (file_world disk last) →
+    (file_world disk opened).is_live → (file_world disk opened).is_honest →
+    IsRunOver disk opened last []
+moved_over disk opened last same shown passes live honest =
+    subst (λ made. IsRunOver disk opened made []) (sym same) (record {
+      run = no_run (file_world disk opened);
+      leaves = record {
+        handled = [];
+        told = record { events_are = refl; taken_are = refl };
+        left = λ so held may. inr (inr (may, λ code. refl));
+        safe = λ so safe. safe;
+        left_within = λ so left. left;
+        left_releasing = λ so releasing left. left;
+      };
+      passes = record { honest = λ h. h; live = λ h l. l; refusing = λ m. m };
+    })
+
 -- ---- a copy
 
 pub copied_over : {S : Type 0} (disk : Ghosts S) (opened last : Held S) →
     IsRead (file_world disk) (file_rests disk) opened last → (file_world disk opened).is_live →
-    Given (file_world disk opened) (file_world disk last) (IsRunOver disk opened last [] [])
+    Given (file_world disk opened) (file_world disk last) (IsRunOver disk opened last [])
 copied_over disk opened last read live honest reached = record {
-  handled = [];
-  told = record { events_are = refl; taken_are = refl };
   run = still_run (file_world disk opened) (file_world disk last) (read.passes.live honest)
       (read.same honest reached);
   leaves = record {
@@ -219,7 +300,7 @@ unlisted schema lists =
     ∙ ap (λ all. record { tables = []; indexes = []; views = all }) views
 
 -- a file without a byte shows no schema
-found_blank : (image : Image) → image.db ≡ [] → (s : State) → IsFound (AreHeldIn image) s →
+pub found_blank : (image : Image) → image.db ≡ [] → (s : State) → IsFound (AreHeldIn image) s →
     IsBlank s.now
 found_blank image none s found = elim found.held.reads [
   | inl adopts ↦

@@ -4,9 +4,10 @@ use Rattle.std.specs.Prelude.{◌≡◌, ◌<◌, ℕ, List, Option, Result, Ok,
 use Rattle.std.specs.Io.KnownBytes.{Appends, Keeps}
 use Rattle.lab_forms_texts.specs.declared.tick.Tick.{Tick}
 use Rattle.lab_records_kept.specs.declared.keeper.Keeper.{Ghosts}
-use Rattle.lab_records_kept.specs.Worlds.{Given, Leaves, Lives, IsDurable}
-use Rattle.lab_desk_foundings.specs.Faults.{FoundFaultFits}
-use Rattle.lab_desk_foundings.specs.Foundings.{Founds, founded_line, founding_in}
+use Rattle.lab_records_kept.specs.Worlds.{CommitsAs, Given, IsDurable, Leaves, Lives, Passes, Quiet}
+use Rattle.lab_desk_foundings.specs.declared.faults.FoundFault.{FoundFault}
+use Rattle.lab_desk_foundings.specs.Faults.{FoundFaultFits, OnBody, OnKept, OnUncommitted}
+use Rattle.lab_desk_foundings.specs.Foundings.{Births, Body, Founds, founded_line, founding_in}
 use Rattle.lab_desk_runs.specs.Keeping.{Stays}
 use Rattle.lab_program_outside.specs.Sources.{Drawing, IsDrawn}
 use Rattle.lab_program_outside.specs.TaskEnds.{TaskEnd}
@@ -51,6 +52,21 @@ pub record IsFoundedAt {S : Type 0} (keeper : Ghosts S) (old new : S) (code : Li
   pub lives : Lives (keeper.world old) (keeper.world new)
   pub stays : Stays (keeper.world old) (keeper.world new)
 
+-- at a tick the founding of a laboratory from a body was refused, for this fault: every laboratory means
+-- what it meant. A crash may leave what it could before, or, where its commit was begun, what that
+-- makes; and all that stays true over an event stays so
+pub record IsRefusedAt {S : Type 0} (keeper : Ghosts S) (old new : S) (code : List ℕ) (tick : Tick)
+    (body : Body) (fault : FoundFault) : Type 0 where
+  pub fits : FoundFaultFits (keeper.world old).may_refuse
+      (Given (keeper.world old) (keeper.world new) (IsSome ((keeper.world old).meaning code))) code
+      tick body fault
+  pub same : Leaves (keeper.world old) (keeper.world new)
+  pub untouched : OnBody (Err fault) (new ≡ old)
+  pub lives : OnKept (Err fault) (Lives (keeper.world old) (keeper.world new))
+  pub crash : CommitsAs (Births code tick body) (keeper.world old) (keeper.world new)
+  pub quiet : OnUncommitted (Err fault) (Quiet (keeper.world old) (keeper.world new))
+  pub stays : Stays (keeper.world old) (keeper.world new)
+
 module _ {S : Type 0} (keeper : Ghosts S) (task : FoundTask) where
   module _ (bytes : List ℕ) (old new : S) where
     -- so it was at the tick that was drawn
@@ -59,16 +75,12 @@ module _ {S : Type 0} (keeper : Ghosts S) (task : FoundTask) where
         × IsFoundedAt keeper old new task.code tick bytes
 
     -- by how it ended: where the output failed the laboratory is founded all the same; a refusal is
-    -- the founding's, at the tick, and every laboratory means what it meant; where body, clock or
-    -- chance failed, or memory ran out before, nothing was done
+    -- the founding's, at the tick; where body, clock or chance failed, or memory ran out before,
+    -- nothing was done
     abbrev pub EndsFounding : Result (Unit {0}) FoundingFault → Type 0
     EndsFounding (Ok _) = IsFounded
     EndsFounding (Err (Founding fault)) = (tick : Tick) × IsDrawn task.drawing tick
-        × FoundFaultFits (keeper.world old).may_refuse
-        (Given (keeper.world old) (keeper.world new)
-        (IsSome ((keeper.world old).meaning task.code))) task.code tick
-        (founding_in bytes) fault
-        × Leaves (keeper.world old) (keeper.world new)
+        × IsRefusedAt keeper old new task.code tick (founding_in bytes) fault
     EndsFounding (Err (Server Read)) = new ≡ old
     EndsFounding (Err (Server Write)) = IsFounded
     EndsFounding (Err (Server Memory)) = new ≡ old
@@ -82,6 +94,7 @@ module _ {S : Type 0} (keeper : Ghosts S) (task : FoundTask) where
     -- the founding ended so over a keeper that was opened
     abbrev pub EndsOver : Result (Unit {0}) FoundingFault → Type 0
     EndsOver ending = (old : S) × (new : S) × opened old × Ends old new ending
+        × Passes (keeper.world old) (keeper.world new)
 
     -- the task `found`, by its status, what was printed and what was told: where the file wasn't
     -- made or opened, nothing was printed

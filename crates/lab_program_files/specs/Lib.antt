@@ -3,3 +3,4 @@ pub mod Foundings
 pub mod Copying
 pub mod Serving
 pub mod Starts
+pub mod Histories

@@ -1,6 +1,6 @@
 //! The laws of the next start over a file. The functions do nothing: their contracts say the laws.
 
-ghost use Rattle.std.specs.Prelude.{◌≡◌, ◌++◌, IsTrue, List, [], ◌∷◌, Bool, true, None, ℕ};
+ghost use Rattle.std.specs.Prelude.{◌≡◌, ◌++◌, IsTrue, List, [], ◌∷◌, None, ℕ};
 ghost use Rattle.sqlite_wal.specs.Recovery.{Image};
 ghost use Rattle.sqlite_store.specs.declared.store.FileStore.{FileStore};
 ghost use Rattle.sqlite_store.specs.FileStore.{recovers, state as pages_of, view};
@@ -11,14 +11,14 @@ ghost use Rattle.lab_forms_texts.specs.declared.tick.Tick.{Tick};
 ghost use Rattle.lab_records_kept.specs.Worlds.{Given, Meaning, Passes, SameMeaning};
 ghost use Rattle.lab_records_walks.specs.Resting.{IsRead};
 ghost use Rattle.lab_store.specs.StoreWorlds.{world_of};
-ghost use Rattle.lab_desk_runs.specs.Alone.{Founding, Happening};
 ghost use Rattle.lab_desk_runs.specs.Keeping.{AreWithin, GivenWithin};
+ghost use Rattle.lab_desk_runs.specs.Runs.{Handled};
 ghost use Rattle.lab_desk_runs.specs.Starts.{Start};
 ghost use Rattle.lab_program_shelves.specs.Files.{AreHeldIn, IsOpened, IsOurs};
 ghost use Rattle.lab_program_serve.specs.Visits.{AreVisits, GoesOn, Visit};
 ghost use Rattle.lab_program_files.specs.FileWorlds.{file_keeper, file_rests, file_world};
 ghost use Rattle.lab_program_files.specs.Foundings.{IsFoundedAt};
-ghost use Rattle.lab_program_files.specs.Starts.{AreSoFar, IsRunOver, IsServedOver, start_of};
+ghost use Rattle.lab_program_files.specs.Starts.{AreSoFar, IsRunOver, IsServedOver, founding_answered, start_of};
 
 use sqlite::Alter;
 use sqlite_disk::Disk;
@@ -44,15 +44,14 @@ pub fn a_start_finds_what_was_left<D: Disk, S: Alter>()
         × ((held : Meaning) → (world_of (state S.Store next)).may_leave held →
         SameMeaning (world_of (state S.Store next)).meaning held) }
     ensures goes_on { (first : Meaning) (starts : List Start) (before after : Image)
-        (opened last : Held (FileStore D D.Disk)) (next : Held S)
-        (events : List Happening) (taken : List Bool) →
+        (opened last : Held (FileStore D D.Disk)) (next : Held S) (handled : List Handled) →
         AreSoFar first starts (world_of (file_state opened)).meaning →
-        IsOurs over_files (AreHeldIn before) opened → IsRunOver over_files opened last events taken →
+        IsOurs over_files (AreHeldIn before) opened → IsRunOver over_files opened last handled →
         IsConnected (view last.store) (recovers last.store) last.schema last.saved
         last.in_transaction →
         HasCleanDisk (file_state last) → (pages_of last.store).may_leave after →
         IsOurs S.Store (AreHeldIn after) next → HasCleanDisk (state S.Store next) →
-        ∥ AreSoFar first (starts ++ start_of events taken (world_of (file_state opened)).meaning
+        ∥ AreSoFar first (starts ++ start_of handled (world_of (file_state opened)).meaning
         (world_of (state S.Store next)).meaning ∷ []) (world_of (state S.Store next)).meaning ∥₁ }
 {}
 
@@ -68,15 +67,15 @@ pub fn a_new_file_is_empty<S: Alter>()
 {}
 
 /// Law: what a server did over a file, from its opening until it was given up, is a run over that file, as one of
-/// `Desk::run`, where no fault has shut it by then; `IsTime` says of each time of a server what is asked here. So it is one
-/// of the starts of `goes_on`: each laboratory's replies and rows over services and stops are those of its own small
-/// machine.
+/// `Desk::run`, also where its last request met a fault that shut the file; `IsTime` says of each time of a server what is
+/// asked here, and `found` that the connection of a start is live. So it is one of the starts of `goes_on`: each
+/// laboratory's replies and rows over services and stops are those of its own small machine.
 pub fn what_is_served_is_a_start<S: Alter>()
     ensures { (reply : List ℕ) (opened last : Held S) (visits : List Visit) →
         GivenWithin (file_world S.Store opened) (file_world S.Store last)
         (AreVisits (file_keeper S.Store) (GoesOn (file_keeper S.Store)) reply opened visits last) →
         Passes (file_world S.Store opened) (file_world S.Store last) →
-        (file_world S.Store last).is_live →
+        (file_world S.Store opened).is_live →
         GivenWithin (file_world S.Store opened) (file_world S.Store last)
         (IsServedOver S.Store opened last visits) }
 {}
@@ -88,7 +87,7 @@ pub fn what_is_founded_is_a_start<S: Alter>()
         IsFoundedAt (file_keeper S.Store) opened last code tick bytes →
         Passes (file_world S.Store opened) (file_world S.Store last) →
         AreWithin (file_world S.Store opened) →
-        IsRunOver S.Store opened last (Founding code tick bytes ∷ []) (true ∷ []) }
+        IsRunOver S.Store opened last (founding_answered code tick bytes ∷ []) }
 {}
 
 /// Law: a copy out of a file is a run over that file without an event, and so one of the starts of `goes_on`; `IsCopying`
@@ -98,5 +97,5 @@ pub fn what_is_copied_is_a_start<S: Alter>()
         IsRead (file_world S.Store) (file_rests S.Store) opened last →
         (file_world S.Store opened).is_live →
         Given (file_world S.Store opened) (file_world S.Store last)
-        (IsRunOver S.Store opened last [] []) }
+        (IsRunOver S.Store opened last []) }
 {}

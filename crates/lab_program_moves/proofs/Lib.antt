@@ -1,1 +1,2 @@
 pub mod KnownValues
+pub mod MoveLemmas

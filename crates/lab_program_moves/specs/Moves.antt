@@ -21,7 +21,7 @@ use Rattle.lab_program_outside.specs.TaskEnds.{TaskEnd}
 use Rattle.lab_program_shelves.specs.declared.faults.OpenFault.{OpenFault}
 use Rattle.lab_program_shelves.specs.declared.faults.OpenFault.TheVariants.{File as Unopened}
 use Rattle.lab_program_shelves.specs.Faults.{Declines, TellsWord}
-use Rattle.lab_program_shelves.specs.Files.{Finds}
+use Rattle.lab_program_shelves.specs.Files.{Finds, LeavesShown}
 
 -- ---- what was printed and told
 
@@ -85,6 +85,8 @@ module _ {S : Type 0} (disk : Ghosts S) where
         → IfOk result (IsMoved t (tables_of (state disk made)))
     -- the new file is all that a start asks
     pub ready : HasCleanDisk (state disk made) → OnOk result (IsStart (state disk made))
+    -- and while it is open, a crash leaves what it shows and nothing else
+    pub shown : HasCleanDisk (state disk made) → OnOk result (LeavesShown (state disk made))
     -- a fault has this cause
     pub refused : IfErr result
         (HasCause (state disk old) (state disk left) (state disk new))

@@ -1,22 +1,48 @@
 -- What is served goes on by each connection, and by what comes between two of them.
-use Rattle.std.proofs.Common.{◌≡◌, ◌∙◌, Bool, List, [], ◌∷◌, ◌++◌, append_assoc, append-nil, map, Ok, Err, refl, sym, ap, subst, inl, inr}
-use Rattle.std.specs.Prelude.{ℕ, Result}
+use Rattle.std.proofs.Common.{◌≡◌, ◌∙◌, Bool, true, false, List, [], ◌∷◌, ◌++◌, append_assoc, append-nil, map, Ok, Err, refl, sym, ap, subst, inl, inr}
+use Rattle.std.specs.Prelude.{◌⊎◌, ℕ, IsTrue}
+use Rattle.std.specs.Fmt.{digits}
+use Rattle.std.proofs.lemmas.Bool.{false≢true}
 use Rattle.std.proofs.lemmas.List.{map-append}
-use Rattle.lab_forms_texts.specs.declared.refusals.Fault.{Fault}
-use Rattle.lab_records_kept.specs.declared.faults.BadStore.{BadStore}
+use Rattle.lab_forms_texts.specs.declared.tick.Tick.{Tick}
 use Rattle.lab_records_kept.specs.declared.keeper.Keeper.{Ghosts}
+use Rattle.lab_wire_heads.specs.Messages.{message_text}
+use Rattle.lab_wire.specs.declared.replies.Answer.TheVariants.{Storage}
+use Rattle.lab_wire.specs.Replies.{memory_text, reply_text}
 use Rattle.lab_desk_foundings.specs.declared.run_faults.ServeFault.TheVariants.{Read, Interim, Reply}
 use Rattle.lab_desk_runs.specs.Alone.{Happening, Request}
 use Rattle.lab_desk_runs.specs.Keeping.{AreReleasing, AreWithin, GivenWithin}
 use Rattle.lab_desk_runs.specs.Leaving.{as_told}
+use Rattle.lab_desk_runs.specs.Requests.{IsRefusedReply}
 use Rattle.lab_desk_runs.specs.Runs.{Handled, IsRun, IsTold}
-use Rattle.lab_desk_runs.proofs.Leaving.{LeavesSoFar, leaves_between, leaves_none, leaves_on, request_leaves}
+use Rattle.lab_desk_runs.proofs.Leaving.{LeavesAwake, awake_between, awake_none, awake_on, leaves_awake, request_leaves, request_lives}
 use Rattle.lab_desk_runs.proofs.Running.{no_run, one_request, run_then, still_run}
 use Rattle.lab_desk.specs.Answering.{Answers}
 use Rattle.lab_desk.specs.Serving.{Exchange, HandlesRequest}
 use Rattle.lab_program_outside.specs.declared.faults.ConnectionFault.TheVariants.{Serving, Memory}
 use Rattle.lab_program_serve.specs.Runs.{AreBrought, Brings, IsServedRun}
-use Rattle.lab_program_serve.specs.Visits.{AreVisits, Ending, GoesOn, OnServed, OnUnserved, Visit}
+use Rattle.lab_program_serve.specs.Visits.{AreVisits, Ending, GoesOn, OnServed, OnUnserved, Visit, is_unavailable}
+
+-- ---- replies for the store's sake
+
+-- a reply that tells that memory ran out, or that the store refused, is one
+memory_unavailable : IsTrue (is_unavailable memory_text)
+unfolding memory_text message_text digits
+memory_unavailable = refl
+
+storage_unavailable : (tick : Tick) → IsTrue (is_unavailable (reply_text tick Storage))
+unfolding reply_text message_text digits
+storage_unavailable tick = refl
+
+refused_unavailable : (may_refuse : Type 0) (tick : Tick) (reply : List ℕ) →
+    IsRefusedReply may_refuse tick reply → IsTrue (is_unavailable reply)
+refused_unavailable may_refuse tick reply (inl memory) =
+    subst (λ (told : List ℕ). IsTrue (is_unavailable told)) (sym memory) memory_unavailable
+refused_unavailable may_refuse tick reply (inr storage) =
+    subst (λ (told : List ℕ). IsTrue (is_unavailable told)) (sym storage.1)
+    (storage_unavailable tick)
+
+-- ---- what is told
 
 -- the events of what was handled, and which of them were taken
 abbrev events_in : List Handled → List Happening
@@ -42,10 +68,19 @@ told_on first handled one told = record {
 }
 
 module _ {S : Type 0} (keeper : Ghosts S) where
+  -- a keeper that was live at the start is
+  abbrev IsLiveSince : S → S → Type 0
+  IsLiveSince old now = (keeper.world old).is_live → (keeper.world now).is_live
+
+  -- or it lies behind a reply for the store's sake
+  abbrev IsLiveOrAsked : S → S → List ℕ → Type 0
+  IsLiveOrAsked old now reply =
+      (keeper.world old).is_live → (keeper.world now).is_live ⊎ IsTrue (is_unavailable reply)
+
   -- these were handled so far
   record SoFar (old mid : S) (handled : List Handled) : Type 0 where
     run : IsRun (keeper.world old) (keeper.world mid) handled
-    leaves : LeavesSoFar keeper old mid (events_in handled) (taken_in handled)
+    leaves : LeavesAwake keeper old mid (events_in handled) (taken_in handled)
     releasing : AreReleasing (keeper.world old) → AreReleasing (keeper.world mid)
     reached : (keeper.world mid).is_reached
     within : AreWithin (keeper.world mid)
@@ -55,19 +90,18 @@ module _ {S : Type 0} (keeper : Ghosts S) where
       SoFar kept kept []
   none_so_far kept reached within = record {
     run = no_run (keeper.world kept);
-    leaves = leaves_none keeper kept [];
+    leaves = awake_none keeper kept [];
     releasing = λ releasing. releasing;
     reached = reached;
     within = within;
     refusing = λ may. may;
   }
 
-  -- it was asked whether it answers
-  asked_so_far : (old mid start : S) (handled : List Handled)
-      (result : Result (Unit {0}) (Fault BadStore)) → SoFar old mid handled →
-      Answers keeper mid start result → (keeper.world start).is_honest →
+  -- it was asked whether it answers, and did
+  asked_so_far : (old mid start : S) (handled : List Handled) → SoFar old mid handled →
+      Answers keeper mid start (Ok tt) → (keeper.world start).is_honest →
       SoFar old start handled
-  asked_so_far old mid start handled result so asked honest =
+  asked_so_far old mid start handled so asked honest =
       let back = asked.passes.live honest in
       let same = asked.same honest so.reached in
       let stays = asked.stays so.within honest so.reached in
@@ -76,7 +110,7 @@ module _ {S : Type 0} (keeper : Ghosts S) where
             (run_then (keeper.world old) (keeper.world mid) (keeper.world start) handled []
             so.refusing so.run
             (still_run (keeper.world mid) (keeper.world start) back same));
-        leaves = leaves_between keeper old mid start (events_in handled) (taken_in handled)
+        leaves = awake_between keeper old mid start (events_in handled) (taken_in handled)
             so.leaves
             (record {
               back = back;
@@ -85,7 +119,8 @@ module _ {S : Type 0} (keeper : Ghosts S) where
               stays = stays;
               within = so.within;
               releasing = so.releasing;
-            });
+            })
+            (λ live. (asked.lives honest so.reached).0);
         releasing = λ releasing. stays.releasing (so.releasing releasing);
         reached = stays.reached;
         within = stays.within so.within;
@@ -94,14 +129,14 @@ module _ {S : Type 0} (keeper : Ghosts S) where
 
   -- a request was handled
   request_so_far : (old start next : S) (handled : List Handled) (exchange : Exchange) →
-      SoFar old start handled → (request : HandlesRequest keeper start next exchange) →
-      (keeper.world next).is_honest →
+      SoFar old start handled → IsLiveSince old start →
+      (request : HandlesRequest keeper start next exchange) → (keeper.world next).is_honest →
       SoFar old next (handled ++ record {
         event = Request exchange.tick request.asks;
         taken = request.is_taken;
         answer = exchange.reply;
       } ∷ [])
-  request_so_far old start next handled exchange so request honest =
+  request_so_far old start next handled exchange so woken request honest =
       let handles = request.handles in
       let back = handles.passes.live honest in
       let stays = handles.stays so.within honest so.reached in
@@ -116,10 +151,10 @@ module _ {S : Type 0} (keeper : Ghosts S) where
       record {
         run = run_then (keeper.world old) (keeper.world start) (keeper.world next) handled
             (one ∷ []) so.refusing so.run run;
-        leaves = leaves_on keeper old start next (events_in handled)
+        leaves = awake_on keeper old start next (events_in handled)
             (events_in (handled ++ one ∷ [])) (taken_in handled)
             (taken_in (handled ++ one ∷ [])) one.event one.taken so.leaves
-            (told_on so.leaves.leaves.handled handled one so.leaves.leaves.told)
+            (told_on so.leaves.so.leaves.handled handled one so.leaves.so.leaves.told)
             (record {
               back = back;
               leaves = request_leaves (keeper.world start) (keeper.world next) exchange.tick
@@ -134,12 +169,29 @@ module _ {S : Type 0} (keeper : Ghosts S) where
               within = so.within;
               releasing = so.releasing;
               after = run.after (keeper.world start).meaning (λ live code. refl);
-            });
+            })
+            woken;
         releasing = λ releasing. stays.releasing (so.releasing releasing);
         reached = stays.reached;
         within = stays.within so.within;
         refusing = λ may. so.refusing (handles.passes.refusing may);
       }
+
+  -- which leaves a live keeper live, or a reply behind which it is asked
+  request_wakes : (start next : S) (exchange : Exchange) →
+      (request : HandlesRequest keeper start next exchange) → (keeper.world next).is_honest →
+      (keeper.world start).is_reached → AreWithin (keeper.world start) →
+      (keeper.world start).is_live →
+      (keeper.world next).is_live ⊎ IsTrue (is_unavailable exchange.reply)
+  request_wakes start next exchange request honest reached within live =
+      go request.is_taken refl
+    where
+      go : (taken : Bool) → request.is_taken ≡ taken →
+          (keeper.world next).is_live ⊎ IsTrue (is_unavailable exchange.reply)
+      go true is = inl (request_lives keeper.world start next request.asks
+          (request.handles.taken within honest reached is).lives request.handles.untouched live)
+      go false is = inr (refused_unavailable _ exchange.tick exchange.reply
+          (request.handles.refused honest reached is).replied)
 
   -- what a connection brought, and all so far
   record Brought (old next : S) (handled : List Handled) (exchange : Exchange) (ending : Ending)
@@ -147,12 +199,14 @@ module _ {S : Type 0} (keeper : Ghosts S) where
     here : List Handled
     brings : Brings exchange ending here
     so : SoFar old next (handled ++ here)
+    woken : IsLiveOrAsked old next exchange.reply
 
   -- a request
   one_brought : (old start next : S) (handled : List Handled) (exchange : Exchange) →
-      SoFar old start handled → HandlesRequest keeper start next exchange →
+      SoFar old start handled → IsLiveSince old start →
+      HandlesRequest keeper start next exchange →
       (keeper.world next).is_honest → Brought old next handled exchange (Ok tt)
-  one_brought old start next handled exchange so request honest = record {
+  one_brought old start next handled exchange so woken request honest = record {
     here = record {
       event = Request exchange.tick request.asks;
       taken = request.is_taken;
@@ -170,7 +224,9 @@ module _ {S : Type 0} (keeper : Ghosts S) where
       ),
       tt,
     );
-    so = request_so_far old start next handled exchange so request honest;
+    so = request_so_far old start next handled exchange so woken request honest;
+    woken = λ live. request_wakes start next exchange request honest so.reached so.within
+        (woken live);
   }
 
   -- none
@@ -180,31 +236,44 @@ module _ {S : Type 0} (keeper : Ghosts S) where
       subst (SoFar old next) (sym (append-nil handled))
       (subst (λ kept. SoFar old kept handled) (sym same) so)
 
+  none_woken : (old start next : S) (reply : List ℕ) → IsLiveSince old start → next ≡ start →
+      IsLiveOrAsked old next reply
+  none_woken old start next reply woken same = λ live.
+      inl (subst (λ kept. (keeper.world kept).is_live) (sym same) (woken live))
+
   brought_by : (ending : Ending) (old start next : S) (handled : List Handled)
-      (exchange : Exchange) → SoFar old start handled →
+      (exchange : Exchange) → SoFar old start handled → IsLiveSince old start →
       OnServed ending (HandlesRequest keeper start next exchange) →
       OnUnserved ending (next ≡ start) → (keeper.world next).is_honest →
       Brought old next handled exchange ending
-  brought_by (Ok done) old start next handled exchange so request same honest =
-      one_brought old start next handled exchange so request honest
-  brought_by (Err (Serving Read)) old start next handled exchange so request same honest = record {
+  brought_by (Ok done) old start next handled exchange so woken request same honest =
+      one_brought old start next handled exchange so woken request honest
+  brought_by (Err (Serving Read)) old start next handled exchange so woken request same honest = record {
     here = [];
     brings = (tt, refl);
     so = none_brought old start next handled so same;
+    woken = none_woken old start next exchange.reply woken same;
   }
-  brought_by (Err (Serving (Interim sent))) old start next handled exchange so request same honest =
+  brought_by (Err (Serving (Interim sent))) old start next handled exchange so woken request same honest =
       record {
         here = [];
         brings = (tt, refl);
         so = none_brought old start next handled so same;
+        woken = none_woken old start next exchange.reply woken same;
       }
-  brought_by (Err (Serving (Reply sent))) old start next handled exchange so request same honest =
-      let brought = one_brought old start next handled exchange so request honest in
-      record { here = brought.here; brings = brought.brings; so = brought.so }
-  brought_by (Err Memory) old start next handled exchange so request same honest = record {
+  brought_by (Err (Serving (Reply sent))) old start next handled exchange so woken request same honest =
+      let brought = one_brought old start next handled exchange so woken request honest in
+      record {
+        here = brought.here;
+        brings = brought.brings;
+        so = brought.so;
+        woken = brought.woken;
+      }
+  brought_by (Err Memory) old start next handled exchange so woken request same honest = record {
     here = [];
     brings = (tt, refl);
     so = none_brought old start next handled so same;
+    woken = none_woken old start next exchange.reply woken same;
   }
 
   -- how honest a keeper was before a connection
@@ -230,7 +299,19 @@ module _ {S : Type 0} (keeper : Ghosts S) where
   between_so_far reply old mid start handled so (inl still) honest =
       subst (λ kept. SoFar old kept handled) (sym still.1) so
   between_so_far reply old mid start handled so (inr asked) honest =
-      asked_so_far old mid start handled asked.0 so asked.1 honest
+      asked_so_far old mid start handled so asked honest
+
+  -- it is live then
+  between_woken : (reply : List ℕ) (old mid start : S) → IsLiveOrAsked old mid reply →
+      (keeper.world mid).is_reached → GoesOn keeper reply mid start →
+      (keeper.world start).is_honest → IsLiveSince old start
+  between_woken reply old mid start woken reached (inl still) honest = λ live.
+      elim (woken live) [
+        | inl there ↦ subst (λ kept. (keeper.world kept).is_live) (sym still.1) there
+        | inr asked ↦ absurd (false≢true (sym still.0 ∙ asked))
+      ]
+  between_woken reply old mid start woken reached (inr asked) honest = λ live.
+      (asked.lives honest reached).1
 
   -- all connections
   record AllBrought (old new : S) (handled : List Handled) (visits : List Visit) : Type 0 where
@@ -239,22 +320,24 @@ module _ {S : Type 0} (keeper : Ghosts S) where
     so : SoFar old new (handled ++ there)
 
   all_brought : (reply : List ℕ) (old mid new : S) (handled : List Handled) (visits : List Visit) →
-      SoFar old mid handled → AreVisits keeper (GoesOn keeper) reply mid visits new →
-      AllBrought old new handled visits
-  all_brought reply old mid new handled [] so same = record {
+      SoFar old mid handled → IsLiveOrAsked old mid reply →
+      AreVisits keeper (GoesOn keeper) reply mid visits new → AllBrought old new handled visits
+  all_brought reply old mid new handled [] so woken same = record {
     there = [];
     are = refl;
     so = subst (SoFar old new) (sym (append-nil handled))
         (subst (λ kept. SoFar old kept handled) (sym same) so);
   }
-  all_brought reply old mid new handled (visit ∷ visits) so (start, next, between, one, others) =
+  all_brought reply old mid new handled (visit ∷ visits) so woken
+      (start, next, between, one, others) =
       let honest = honest_before visit.ending start next visit.exchange one.handled one.untouched
       one.honest in
       let brought = brought_by visit.ending old start next handled visit.exchange
-      (between_so_far reply old mid start handled so between honest) one.handled one.untouched
-      one.honest in
+      (between_so_far reply old mid start handled so between honest)
+      (between_woken reply old mid start woken so.reached between honest) one.handled
+      one.untouched one.honest in
       let rest = all_brought visit.exchange.reply old next new (handled ++ brought.here) visits
-      brought.so others in
+      brought.so brought.woken others in
       record {
         there = brought.here ++ rest.there;
         are = (brought.here, rest.there, brought.brings, rest.are, refl);
@@ -266,17 +349,12 @@ module _ {S : Type 0} (keeper : Ghosts S) where
       GivenWithin (keeper.world old) (keeper.world new)
       (IsServedRun (keeper.world old) (keeper.world new) visits)
   served_run reply old new visits are within honest reached =
-      let all = all_brought reply old old new [] visits (none_so_far old reached within) are in
+      let all = all_brought reply old old new [] visits (none_so_far old reached within)
+      (λ live. inl live) are in
       record {
         handled = all.there;
         are = all.are;
         run = all.so.run;
-        leaves = record {
-          handled = all.so.leaves.leaves.handled;
-          told = all.so.leaves.leaves.told;
-          left = λ live. all.so.leaves.leaves.left (all.so.leaves.lives live);
-          safe = λ live. all.so.leaves.leaves.safe (all.so.leaves.lives live);
-          left_within = λ live. all.so.leaves.leaves.left_within (all.so.leaves.lives live);
-          left_releasing = λ live. all.so.leaves.leaves.left_releasing (all.so.leaves.lives live);
-        };
+        leaves = leaves_awake keeper old new (events_in all.there) (taken_in all.there)
+            all.so.leaves;
       }

@@ -138,7 +138,7 @@ module _ {S : Type 0} (keeper : Ghosts S) (opened : S → Type 0) where
       Passes (keeper.world old) (keeper.world new)
   on_passes reply old new (inl same) = subst (λ now. Passes (keeper.world old) (keeper.world now))
       (sym same.1) (passes_still (keeper.world old))
-  on_passes reply old new (inr asked) = asked.1.passes
+  on_passes reply old new (inr asked) = asked.passes
 
   on_stays : (reply : List ℕ) (old new : S) → GoesOn keeper reply old new →
       GivenWithin (keeper.world old) (keeper.world new) (Stays (keeper.world old) (keeper.world new))
@@ -146,7 +146,7 @@ module _ {S : Type 0} (keeper : Ghosts S) (opened : S → Type 0) where
       (λ now. GivenWithin (keeper.world old) (keeper.world now)
       (Stays (keeper.world old) (keeper.world now)))
       (sym same.1) (λ within honest reached. still_stays (keeper.world old) reached)
-  on_stays reply old new (inr asked) = asked.1.stays
+  on_stays reply old new (inr asked) = asked.stays
 
   time_on : (time : Time S) → IsTime keeper opened time → (start new : S) (visit : Visit) →
       GoesOn keeper (reply_after time.reply time.visits) time.last start →

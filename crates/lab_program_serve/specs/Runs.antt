@@ -30,10 +30,11 @@ AreBrought (visit ∷ visits) handled = (here : List Handled) × (there : List H
     × Brings visit.exchange visit.ending here × AreBrought visits there
     × (handled ≡ here ++ there)
 
--- they are a run, and this a crash may leave at its end, where the keeper is live then
+-- they are a run, and this a crash may leave at its end, where the keeper was live at its opening: each
+-- request found it live, also the last one, which may have shut it
 pub record IsServedRun (old new : World) (visits : List Visit) : Type 0 where
   pub handled : List Handled
   pub are : AreBrought visits handled
   pub run : IsRun old new handled
-  pub leaves : LeavesRun new.is_live old new (map (λ (one : Handled). one.event) handled)
+  pub leaves : LeavesRun old.is_live old new (map (λ (one : Handled). one.event) handled)
       (map (λ (one : Handled). one.taken) handled)

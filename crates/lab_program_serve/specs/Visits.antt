@@ -3,9 +3,6 @@
 use Rattle.std.specs.Prelude.{◌≡◌, ◌≤◌, ◌⊎◌, ◌++◌, ℕ, Bool, false, List, [], ◌∷◌, Option, None, Result, Ok, Err, IfSome, codes, length, map, nat_eq}
 use Rattle.std.specs.Io.KnownBytes.{Keeps}
 use Rattle.std.specs.List.{starts_with}
-use Rattle.lab_forms_texts.specs.declared.refusals.Fault.{Fault}
-use Rattle.lab_forms_texts.specs.declared.refusals.Fault.TheVariants.{Refused}
-use Rattle.lab_records_kept.specs.declared.faults.BadStore.{BadStore}
 use Rattle.lab_records_kept.specs.declared.keeper.Keeper.{Ghosts}
 use Rattle.lab_wire_heads.specs.Interims.{interim_text}
 use Rattle.lab_desk_runs.specs.Keeping.{AreWithin}
@@ -57,11 +54,6 @@ IsSent visit = IfSome visit.exchange.known (λ bytes.
 abbrev pub is_unavailable : List ℕ → Bool
 is_unavailable reply = starts_with nat_eq reply (codes "HTTP/1.1 503 ")
 
--- an answer that isn't the store's refusal
-abbrev pub IsNoRefusal : Result (Unit {0}) (Fault BadStore) → Type 0
-IsNoRefusal (Err (Refused _)) = ⊥
-IsNoRefusal _ = Unit {0}
-
 module _ {S : Type 0} (keeper : Ghosts S) where
   -- the request of one connection was handled, or the keeper is as it was; and what a call of the
   -- desk asks was so: laboratories within their limits, an honest keeper, and well-kept tables
@@ -74,11 +66,10 @@ module _ {S : Type 0} (keeper : Ghosts S) where
     pub sent : IsSent visit
 
   -- behind a reply: the keeper is as it was, unless that is one for the store's sake; or it was
-  -- asked whether it answers, and didn't refuse
+  -- asked whether it answers, and did
   abbrev pub GoesOn : List ℕ → S → S → Type 0
   GoesOn reply old new = ((is_unavailable reply ≡ false) × (new ≡ old))
-      ⊎ ((result : Result (Unit {0}) (Fault BadStore)) × Answers keeper old new result
-      × IsNoRefusal result)
+      ⊎ Answers keeper old new (Ok tt)
 
   -- behind any reply the keeper is as it was
   abbrev pub IsStill : List ℕ → S → S → Type 0

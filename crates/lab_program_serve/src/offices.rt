@@ -2,7 +2,7 @@
 
 ghost use Rattle.std.specs.Prelude.{◌≡◌, true, false, ℕ, List, [], Some, None, IfOk};
 ghost use Rattle.lab_program_serve.specs.Times.{IsMended, IsNext};
-ghost use Rattle.lab_program_serve.specs.Visits.{GoesOn, IsNoRefusal};
+ghost use Rattle.lab_program_serve.specs.Visits.{GoesOn};
 
 use crate::openings::Opener;
 use crate::serving::serve_connection;
@@ -183,7 +183,8 @@ impl<S: Keeper + Drop, O: Drop> Office<S, O> {
 }
 
 // Whether the keeper of a desk is live. It is asked only behind a reply that may be the store's,
-// since nothing but a fault of the store shuts a keeper.
+// since nothing but a fault of the store shuts a keeper. One that had no memory to answer doesn't
+// count as live, so that each request finds a keeper that is.
 fn is_live<S: Keeper + Drop>(desk: &mut Desk<S>, lab: &LabCode) -> bool
     ensures { result ≡ true →
         GoesOn S.Keeper desk.old.reply desk.old.keeper desk.new.keeper }
@@ -191,12 +192,8 @@ fn is_live<S: Keeper + Drop>(desk: &mut Desk<S>, lab: &LabCode) -> bool
     if !desk.reply().starts_with(UNAVAILABLE) {
         return true;
     }
-    !is_shut(desk.answers(lab))
-}
-
-// Whether a keeper that answered so is to be opened anew. For want of memory it stays as it is.
-fn is_shut(answer: Result<(), KeeperFault>) -> bool
-    ensures { result ≡ false → IsNoRefusal answer }
-{
-    matches!(answer, Err(KeeperFault::Refused(BadStore)))
+    match desk.answers(lab) {
+        Ok(()) => true,
+        Err(_) => false,
+    }
 }

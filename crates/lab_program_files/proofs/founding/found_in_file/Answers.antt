@@ -13,10 +13,16 @@ returns-in_default-clause-ends g c = (
   c.in_ok-conn.ensures.opened,
   ends_idle (file_keeper g.H.Disk.Store) undrawn c.args.lab.now
       (g.B.Read.remaining c.args.body.now) c.in_ok-conn.conn Memory tt,
+  record { honest = λ h. h; live = λ h l. l; refusing = λ m. m },
 )
 
 pub returns-clause-ends : goal.returns-clause-ends
 returns-clause-ends g c =
     let opened = kept_so (IsOpened g.H.Disk.Store (g.H.Shelf.holds c.args.host.now.shelf c.args.path.now)) c.in_ok-conn.conn c.new.result
-    c.in-Ok.desk.keeper c.in-Ok.ensures.keeper c.new.ensures c.in_ok-conn.ensures.opened in
-    (c.in-Ok.desk.keeper, c.found_over-done.new.desk.keeper, opened, c.found_over-done.ensures.ends)
+    c.in-Ok.desk.keeper c.in-Ok.ensures.keeper c.new.ensures c.in_ok-conn.ensures.opened in (
+      c.in-Ok.desk.keeper,
+      c.found_over-done.new.desk.keeper,
+      opened,
+      c.found_over-done.ensures.ends,
+      c.found_over-done.ensures.passes,
+    )

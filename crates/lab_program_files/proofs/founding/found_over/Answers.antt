@@ -27,8 +27,15 @@ returns-in_err-founding_noted-clause-ends g c =
     (g.B.Read.remaining c.args.body.now) c.as_slice.result.now c.in_ok-intake.intake.bytes.items
     c.args.desk.now.keeper c.found-founded.new.self.keeper c.in_ok-intake.intake.tick _
     c.in_ok-intake.ensures.tick c.as_slice.ensures.value
-    c.in_ok-intake.ensures.body (rw refused at c.found-founded.ensures.fault)
-    (rw refused at c.found-founded.ensures.err))
+    c.in_ok-intake.ensures.body (λ honest reached. record {
+      fits = rw refused at c.found-founded.ensures.fault;
+      same = (rw refused at c.found-founded.ensures.err) honest reached;
+      untouched = rw refused at c.found-founded.ensures.untouched;
+      lives = (rw refused at c.found-founded.ensures.lives) honest reached;
+      crash = c.found-founded.ensures.crash honest reached;
+      quiet = (rw refused at c.found-founded.ensures.quiet) honest reached;
+      stays = c.found-founded.ensures.stays honest reached;
+    }))
 
 pub returns-in_err-founding_noted-clause-prints : goal.returns-in_err-founding_noted-clause-prints
 returns-in_err-founding_noted-clause-prints g c =

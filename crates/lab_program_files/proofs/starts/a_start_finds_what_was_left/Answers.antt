@@ -33,8 +33,8 @@ returns-clause-found g c = λ image next ours shown. (
 
 pub returns-clause-goes_on : goal.returns-clause-goes_on
 returns-clause-goes_on g c =
-    λ first starts before after opened last next events taken so_far ours run connected clean may following shown.
+    λ first starts before after opened last next handled so_far ours run connected clean may following shown.
     ∥∥₁_map (returns-clause-left g c last after next connected clean may following shown)
-    (λ left. one_start_more over_files first starts opened last events taken
+    (λ left. one_start_more over_files first starts opened last handled
     (meaning (tables_in (state g.S.Store next).now.trees)) so_far run
     (leaves_found over_files (AreHeldIn before) opened ours (run.passes.honest clean)) left)

@@ -13,7 +13,8 @@ returns-in-Ok-clause-asked g c = rw (← c.self.view_is) (
       stays = λ within honest reached.
           quiet_stays (g.S.Keeper.world c.self.inside.keeper) (g.S.Keeper.world c.load.new.self)
           (loaded.passes.live honest) (loaded.same honest reached) (loaded.reached honest reached)
-          (loaded.safe honest reached) (loaded.crash honest reached);
+          (loaded.safe honest reached) (loaded.crash honest reached)
+          (loaded.shuts honest reached);
       passes = loaded.passes;
     })
 
@@ -28,6 +29,7 @@ returns-clause-asked g c = rw (← c.self.view_is) (
       stays = λ within honest reached.
           quiet_stays (g.S.Keeper.world c.self.inside.keeper) (g.S.Keeper.world c.load.new.self)
           (loaded.passes.live honest) (loaded.same honest reached) (loaded.reached honest reached)
-          (loaded.safe honest reached) (loaded.crash honest reached);
+          (loaded.safe honest reached) (loaded.crash honest reached)
+          (loaded.shuts honest reached);
       passes = loaded.passes;
     })

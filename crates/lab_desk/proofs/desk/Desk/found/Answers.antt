@@ -35,6 +35,7 @@ returns-clause-stays g c = rw (← c.self.view_is) (λ honest reached.
           newly.bears (c.found.ensures.crash honest reached);
       left_releasing = placed_leaves_releasing old new c.args.lab.now c.args.tick.now newly.founding
           lab newly.bears (c.found.ensures.crash honest reached);
+      again = c.found.ensures.shuts honest reached;
     })
 
 pub returns-in_err-found-clause-stays : goal.returns-in_err-found-clause-stays
@@ -49,7 +50,7 @@ returns-in_err-found-clause-stays g c = rw (← c.self.view_is) (λ honest reach
     (placed_leaves_within old new c.args.lab.now c.args.tick.now newly.founding lab newly.bears
     (c.found.ensures.crash honest reached))
     (placed_leaves_releasing old new c.args.lab.now c.args.tick.now newly.founding lab newly.bears
-    (c.found.ensures.crash honest reached)))
+    (c.found.ensures.crash honest reached)) (c.found.ensures.shuts honest reached))
 
 pub returns-in_err-newborn-clause-stays : goal.returns-in_err-newborn-clause-stays
 returns-in_err-newborn-clause-stays g c = λ honest reached.
