@@ -18,12 +18,12 @@ use Rattle.lab_store_tables.specs.Sheets.{insert_text, insert_terms}
 use Rattle.lab_store_tables.specs.Family.{Name, Desk, RowOf, kept, table_in, id_of, values_of, stored_row, rows, tables_in, put, Labs, Persons, Sessions, Forms, Fields, Choices, Records, Versions, Entries, Signatures, Trail}
 use Rattle.lab_store_tables.specs.Held.{IsTyped}
 use Rattle.lab_store_laws.proofs.Tables.{stored_with, rising_with, held_if_stored}
-use Rattle.lab_store_write.proofs.Columns.{cast_new, stays}
+use Rattle.lab_store_write.proofs.Columns.{cast_new}
 use Rattle.lab_store_write.proofs.Writes.{add_next, next_id, uncounted}
 use Rattle.lab_store_write.proofs.Inside.{Wrote}
 
 -- the place of the table in the schema, and how many values a row has
-abbrev place : Name → ℕ
+abbrev pub place : Name → ℕ
 place Desk = 0
 place Labs = 1
 place Persons = 2
@@ -40,11 +40,11 @@ place Trail = 11
 abbrev width : Name → ℕ
 width k = length (kept k).sheet.columns + 2
 
-there : (k : Name) → slice_get lab_schema.tables (place k) ≡ Some (uncounted (table_in k))
+pub there : (k : Name) → slice_get lab_schema.tables (place k) ≡ Some (uncounted (table_in k))
 there Desk = refl
 there _ = refl
 
-lies : (k : Name) (db : Trees) → overlay db [] (table_in k).tree ≡ db (table_in k).tree
+pub lies : (k : Name) (db : Trees) → overlay db [] (table_in k).tree ≡ db (table_in k).tree
 lies Desk db = refl
 lies _ db = refl
 
@@ -69,7 +69,7 @@ pub adds : (k : Name) (one : RowOf k) (old new : State) (count : ℕ) → IsType
     → Executes (text_of k) (values_of k one) old new (Ok count) → Wrote (put k one (tables_in old.now.trees)) new.now
 adds k one old new count typed next did =
     let t = tables_in old.now.trees in
-    let it = add_next (table_in k) (id_of k) (stored_row k) (λ _. (refl, refl)) (stays k) (place k) (there k) (lies k)
+    let it = add_next (table_in k) (id_of k) (stored_row k) (λ _. refl) (place k) (there k)
     (text_of k) (insert_terms (kept k).sheet.columns) (width k) (plain k) (is k) (values_of k one) (Null ∷ values_of k one) one old new count (rows k t) next refl (shows k one)
     (cast_new (kept k).sheet ((kept k).cells one)) typed.schema (typed.stored.at k) (typed.rising.at k) did in
     record {
@@ -82,6 +82,6 @@ adds k one old new count typed next did =
 pub ids : (k : Name) (one : RowOf k) (old new : State) (count : ℕ) → IsTyped old.now → Executes (text_of k) (values_of k one) old new (Ok count)
     → new.last_rowid ≡ next_key (id_of k) (rows k (tables_in old.now.trees))
 ids k one old new count typed did =
-    next_id (table_in k) (id_of k) (stored_row k) (λ _. (refl, refl)) (stays k) (place k) (there k) (lies k)
+    next_id (table_in k) (id_of k) (stored_row k) (λ _. refl) (place k) (there k)
     (text_of k) (insert_terms (kept k).sheet.columns) (width k) (plain k) (is k) (values_of k one) (Null ∷ values_of k one) old new count (rows k (tables_in old.now.trees)) (shows k one)
     (cast_new (kept k).sheet ((kept k).cells one)) typed.schema (typed.stored.at k) did

@@ -1,5 +1,4 @@
 pub mod Writes
-pub mod ByKey
 pub mod Columns
 pub mod Inside
 pub mod Placed
@@ -11,3 +10,4 @@ pub mod KnownValues
 pub mod TrailWrites
 pub mod TrailAddedLemmas
 pub mod Inserts
+pub mod Updates

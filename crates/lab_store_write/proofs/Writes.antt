@@ -1,5 +1,5 @@
 -- What an INSERT of one row and an UPDATE make of a table of typed rows.
-use Rattle.std.proofs.Common.{◌≡◌, ◌⊎◌, inl, inr, ℕ, ℤ, ◌<ℤ◌, pos, negsuc, List, [], ◌∷◌, ◌+ℤ◌, ◌/◌, map, filter, fold, drop, length, slice_get, Bool, true, false, cond, not, ◌==◌, None, Some, unwrap_or, Ok, Err, Result, refl, sym, ap, ap₂, subst, ◌∙◌, arith, int_eq, int_cmp, Greater}
+use Rattle.std.proofs.Common.{◌≡◌, ◌⊎◌, inl, inr, ℕ, ℤ, ◌<ℤ◌, pos, negsuc, List, [], ◌∷◌, ◌+ℤ◌, ◌/◌, map, filter, fold, drop, length, slice_get, Bool, true, false, cond, not, ◌==◌, None, Some, unwrap_or, Ok, Err, Result, refl, sym, ap, ap₂, subst, ◌∙◌, arith, int_cmp, Greater}
 use Rattle.std.specs.Ordering.{match_ordering}
 use Rattle.std.specs.List.{AllByRecursion}
 use Rattle.std.proofs.lemmas.Int.{ints}
@@ -7,15 +7,12 @@ use Rattle.std.proofs.lemmas.List.{length-map}
 use Rattle.std.proofs.lemmas.List.Folds.{fold-map}
 use Rattle.sqlite_value.specs.declared.value.Value.{Value}
 use Rattle.sqlite_value.specs.declared.value.Value.TheVariants.{Null, Int}
-use Rattle.sqlite_value.specs.declared.keys.Collation.TheVariants.{Binary}
-use Rattle.sqlite_value.specs.Order.{Row, column}
+use Rattle.sqlite_value.specs.Order.{Row}
 use Rattle.sqlite_trees.specs.Tree.{Trees, rowid, put_row}
-use Rattle.sqlite_sql.specs.declared.ops.BinaryOp.TheVariants.{Compare}
-use Rattle.sqlite_sql.specs.declared.ops.CompareOp.TheVariants.{Eq}
-use Rattle.sqlite_sql.specs.Ops.{unary, binary, is_true}
+use Rattle.sqlite_sql.specs.Ops.{unary}
 use Rattle.sqlite_sql.specs.Program.{overlay}
 use Rattle.sqlite_sql.specs.Query.{Query, inner, end, IsAnswer}
-use Rattle.sqlite_sql.specs.Term.{Term, lit, col, op2, eval_all}
+use Rattle.sqlite_sql.specs.Term.{Term, lit}
 use Rattle.sqlite_schema.specs.declared.schema.Keys.TheVariants.{Enforced}
 use Rattle.sqlite_schema.specs.declared.schema.Kind.TheVariants.{Integer}
 use Rattle.sqlite_schema.specs.declared.schema.Table.{Table}
@@ -32,11 +29,9 @@ use Rattle.sqlite_rules.proofs.ProbeLemmas.{mapped_has}
 use Rattle.sqlite_rules.proofs.TableLemmas.{put_all_adds}
 use Rattle.sqlite_keyed.specs.Keyed.{IsKeyedBy, next_key, insert_by}
 use Rattle.sqlite_keyed.specs.Lists.{update_where, delete_where}
-use Rattle.sqlite_keyed.proofs.ListLemmas.{map-map, map_same, all-filter, all_map, all_weaker}
+use Rattle.sqlite_keyed.proofs.ListLemmas.{map-map, all-filter, all_map, all_weaker}
 use Rattle.sqlite_keyed.proofs.KeyedLemmas.{Less-from_lt}
-use Rattle.sqlite_keyed.proofs.RuleLemmas.{at_most_one}
 use Rattle.sqlite_keyed.proofs.WriteLemmas.{removes_delete}
-use Rattle.sqlite_typed.proofs.AnswerLemmas.{last_table, at_end}
 use Rattle.sqlite_typed.proofs.RowLemmas.{puts-map, deletes-map}
 use Rattle.sqlite.specs.Effect.{Database, IsDatabase, value_rows}
 use Rattle.sqlite.specs.Rows.{Written, Task, stamped, last_id}
@@ -45,7 +40,6 @@ use Rattle.sqlite.specs.Listing.{understood}
 use Rattle.sqlite.specs.State.{State, mode_of, Executes}
 use Rattle.sqlite.proofs.Callers.{IsPlain, command_of, runs_as, one_step, statement_of}
 use Rattle.lab_store_tables.specs.Schema.{lab_schema}
-use Rattle.lab_store_columns.proofs.Sorted.{equal_ints, and_true, only_answer}
 use Rattle.lab_store_laws.proofs.Tables.{AreSpared}
 
 -- a part that gave a value did not stop on the way
@@ -251,13 +245,6 @@ module _ (at : ℕ) (table : Table) (there : slice_get lab_schema.tables at ≡ 
         counted = w.counted ∙ ap (λ (p : Tally × Database). unwrap_or p.0.rows 0) result ∙ ap (λ (it : Written). length it.rows) written ∙ ap length news ∙ length-map _ _;
       }
 
-  pub updated : (q : Query) → command_of (understood lab_schema sql) ≡ Update at (record { lets = []; body = q })
-      → (sources : List Row) → ((rows : List Row) → IsAnswer q (overlay old.now.trees []) params rows → rows ≡ sources)
-      → Replaces table (edited old.now.trees (edit_of old.now.trees (uncounted table) (ids_of sources) Given 1 sources)) old.now new.now
-  updated q is sources exact =
-      let it = answered q is in
-      subst (λ l. Replaces table (edited old.now.trees (edit_of old.now.trees (uncounted table) (ids_of l) Given 1 l)) old.now new.now) (exact it.sources it.answer) it.replaced
-
 -- ---- the query of an update
 
 abbrev pub by_tests_query : ℕ → List Term → List Term → Query
@@ -273,63 +260,30 @@ by_tests_query tree tests shown = record {
   offset = lit (Int (pos 0));
 }
 
--- of an update by id
-abbrev pub by_id_query : ℕ → List Term → Query
-by_id_query tree shown = by_tests_query tree (op2 (Compare Eq Binary) (col 1 0) (col 0 0) ∷ []) shown
+-- a row more under the next id: what the statement does of a table of typed rows
+module _ {X : Type 0} (table : Table) (key : X → ℤ) (to_row : X → Row) (keyed : (x : X) → rowid (to_row x) ≡ Int (key x)) (at : ℕ) (there : slice_get lab_schema.tables at ≡ Some (uncounted table))
+    (sql : List ℕ) (terms : List Term) (width : ℕ) (plain : IsPlain (understood lab_schema sql)) (is : command_of (understood lab_schema sql) ≡ Insert at (Values terms width)) where
+  pub add_next : (params tail : Row) (new_row : X) (old new : State) (count : ℕ) (xs : List X) → key new_row ≡ next_key key xs → to_row new_row ≡ Int (key new_row) ∷ tail
+      → value_rows (stamped (uncounted table) params) width (length terms / width) terms ≡ (Null ∷ tail) ∷ []
+      → cast_row (uncounted table) (Null ∷ tail) ≡ Null ∷ tail
+      → old.now.schema ≡ lab_schema → old.now.trees table.tree ≡ map to_row xs → IsKeyedBy key xs
+      → Executes sql params old new (Ok count) → Replaces table (map to_row (insert_by key xs new_row)) old.now new.now
+  add_next params tail new_row old new count xs next row shows cast schema stored rise did =
+      let it = inserted at table there sql params old new count schema plain did terms width is ((Null ∷ tail) ∷ []) shows in
+      let db = old.now.trees in
+      let put : edited db (edit_of db (uncounted table) [] Chosen 0 ((Null ∷ tail) ∷ [])) ≡ put_row (Int (next_rowid (db table.tree)) ∷ tail) (db table.tree) =
+      ap (λ one. put_row (with_rowid Chosen (db table.tree) one) (db table.tree)) cast in
+      record {
+        schema = it.schema;
+        rows = it.rows ∙ put ∙ ap (λ l. put_row (Int (next_rowid l) ∷ tail) l) stored ∙ put_next key to_row keyed xs new_row tail next row;
+        spared = it.spared;
+        sound = it.sound;
+      }
 
-module _ {X : Type 0} (tree : ℕ) (key : X → ℤ) (to_row : X → Row) (keyed : (x : X) → column (to_row x) 0 ≡ Int (key x)) (xs : List X) (db : Trees) (stored : db tree ≡ map to_row xs) (rise : IsKeyedBy key xs) where
-  pub shown_by_id : (shown : List Term) (id : ℤ) (given : Row) (source : X → Row) → ((x : X) → eval_all shown ((Int id ∷ given) ∷ to_row x ∷ []) ≡ source x)
-      → (rows : List Row) → IsAnswer (by_id_query tree shown) db (Int id ∷ given) rows → rows ≡ map source (filter (λ x. int_eq (key x) id) xs)
-  shown_by_id shown id given source shows rows answer =
-      let params = Int id ∷ given in
-      only_answer (by_id_query tree shown) db params (last_table db tree to_row key xs stored rise (at_end db)) (λ x. int_eq (key x) id)
-      (λ x. and_true _ ∙ ap (λ v. is_true (binary (Compare Eq Binary) v (Int id))) (keyed x) ∙ equal_ints (key x) id) refl refl
-      (at_most_one key id (λ x. int_eq (key x) id) (λ x e. e) xs rise) rows answer
-      ∙ map_same _ _ shows _
-
--- an update of the row with an id: what the statement does of a table of typed rows
-module _ {X : Type 0} (table : Table) (key : X → ℤ) (to_row : X → Row) (keyed : (x : X) → (rowid (to_row x) ≡ Int (key x)) × (column (to_row x) 0 ≡ Int (key x)))
-    (casts : (x : X) → cast_row (uncounted table) (to_row x) ≡ to_row x) (at : ℕ) (there : slice_get lab_schema.tables at ≡ Some (uncounted table)) (lies : (db : Trees) → overlay db [] table.tree ≡ db table.tree) where
-  module _ (sql : List ℕ) (shown : List Term) (plain : IsPlain (understood lab_schema sql))
-      (is : command_of (understood lab_schema sql) ≡ Update at (record { lets = []; body = by_id_query table.tree shown })) where
-    pub set_by_id : (id : ℤ) (others : Row) (next : X → X) → ((x : X) → key (next x) ≡ key x) → ((x : X) → eval_all shown ((Int id ∷ others) ∷ to_row x ∷ []) ≡ Int (key x) ∷ to_row (next x))
-        → (old new : State) (count : ℕ) (xs : List X) → old.now.schema ≡ lab_schema → old.now.trees table.tree ≡ map to_row xs → IsKeyedBy key xs
-        → Executes sql (Int id ∷ others) old new (Ok count) → Replaces table (map to_row (update_where (λ x. int_eq (key x) id) next xs)) old.now new.now
-    set_by_id id others next keeps shows old new count xs schema stored rise did =
-        let source = λ (x : X). Int (key x) ∷ to_row (next x) in
-        let mine = λ (x : X). int_eq (key x) id in
-        let it = updated at table there sql (Int id ∷ others) old new count schema plain did (by_id_query table.tree shown) is (map source (filter mine xs))
-        (shown_by_id table.tree key to_row (λ x. (keyed x).1) xs (overlay old.now.trees []) (lies old.now.trees ∙ stored) rise shown id others source shows) in
-        record {
-          schema = it.schema;
-          rows = it.rows ∙ update_edit key to_row (λ x. (keyed x).0) old.now.trees (uncounted table) mine source next (λ x. casts (next x)) (λ x. refl) keeps xs rise stored;
-          spared = it.spared;
-          sound = it.sound;
-        }
-
-  -- a row more under the next id
-  module _ (sql : List ℕ) (terms : List Term) (width : ℕ) (plain : IsPlain (understood lab_schema sql)) (is : command_of (understood lab_schema sql) ≡ Insert at (Values terms width)) where
-    pub add_next : (params tail : Row) (new_row : X) (old new : State) (count : ℕ) (xs : List X) → key new_row ≡ next_key key xs → to_row new_row ≡ Int (key new_row) ∷ tail
-        → value_rows (stamped (uncounted table) params) width (length terms / width) terms ≡ (Null ∷ tail) ∷ []
-        → cast_row (uncounted table) (Null ∷ tail) ≡ Null ∷ tail
-        → old.now.schema ≡ lab_schema → old.now.trees table.tree ≡ map to_row xs → IsKeyedBy key xs
-        → Executes sql params old new (Ok count) → Replaces table (map to_row (insert_by key xs new_row)) old.now new.now
-    add_next params tail new_row old new count xs next row shows cast schema stored rise did =
-        let it = inserted at table there sql params old new count schema plain did terms width is ((Null ∷ tail) ∷ []) shows in
-        let db = old.now.trees in
-        let put : edited db (edit_of db (uncounted table) [] Chosen 0 ((Null ∷ tail) ∷ [])) ≡ put_row (Int (next_rowid (db table.tree)) ∷ tail) (db table.tree) =
-        ap (λ one. put_row (with_rowid Chosen (db table.tree) one) (db table.tree)) cast in
-        record {
-          schema = it.schema;
-          rows = it.rows ∙ put ∙ ap (λ l. put_row (Int (next_rowid l) ∷ tail) l) stored ∙ put_next key to_row (λ x. (keyed x).0) xs new_row tail next row;
-          spared = it.spared;
-          sound = it.sound;
-        }
-
-    pub next_id : (params tail : Row) (old new : State) (count : ℕ) (xs : List X) → value_rows (stamped (uncounted table) params) width (length terms / width) terms ≡ (Null ∷ tail) ∷ []
-        → cast_row (uncounted table) (Null ∷ tail) ≡ Null ∷ tail → old.now.schema ≡ lab_schema → old.now.trees table.tree ≡ map to_row xs
-        → Executes sql params old new (Ok count) → new.last_rowid ≡ next_key key xs
-    next_id params tail old new count xs shows cast schema stored did =
-        let db = old.now.trees in
-        inserted_id at table there sql params old new count schema plain did terms width is ((Null ∷ tail) ∷ []) shows
-        ∙ ap (λ one. unwrap_or (last_id (with_rowid Chosen (db table.tree) one ∷ [])) old.last_rowid) cast ∙ ap next_rowid stored ∙ next_is key to_row (λ x. (keyed x).0) xs
+  pub next_id : (params tail : Row) (old new : State) (count : ℕ) (xs : List X) → value_rows (stamped (uncounted table) params) width (length terms / width) terms ≡ (Null ∷ tail) ∷ []
+      → cast_row (uncounted table) (Null ∷ tail) ≡ Null ∷ tail → old.now.schema ≡ lab_schema → old.now.trees table.tree ≡ map to_row xs
+      → Executes sql params old new (Ok count) → new.last_rowid ≡ next_key key xs
+  next_id params tail old new count xs shows cast schema stored did =
+      let db = old.now.trees in
+      inserted_id at table there sql params old new count schema plain did terms width is ((Null ∷ tail) ∷ []) shows
+      ∙ ap (λ one. unwrap_or (last_id (with_rowid Chosen (db table.tree) one ∷ [])) old.last_rowid) cast ∙ ap next_rowid stored ∙ next_is key to_row keyed xs

@@ -1,26 +1,21 @@
 -- What each statement on persons means, and what it makes of the tables.
-use Rattle.std.proofs.Common.{◌≡◌, ℕ, ℤ, List, [], ◌∷◌, codes, Ok, refl, ap, subst, int_eq}
-use Rattle.sqlite_value.specs.declared.value.Value.TheVariants.{Null, Int}
+use Rattle.std.proofs.Common.{◌≡◌, ℕ, ℤ, List, ◌∷◌, codes, Ok, refl, ap, subst, int_eq}
+use Rattle.sqlite_value.specs.declared.value.Value.TheVariants.{Int}
 use Rattle.sqlite_value.specs.Order.{Row}
-use Rattle.sqlite_schema.specs.declared.command.Command.TheVariants.{Update}
-use Rattle.sqlite_sql.specs.Term.{Term, lit, col}
 use Rattle.sqlite_tied.specs.Compute.{everything}
 use Rattle.sqlite_keyed.specs.Keyed.{next_key}
 use Rattle.sqlite_keyed.specs.Lists.{update_where}
-use Rattle.sqlite_keyed.proofs.KeyedLemmas.{IsKeyedBy-update_where, same_int}
+use Rattle.sqlite_keyed.proofs.KeyedLemmas.{same_int}
 use Rattle.sqlite.specs.Listing.{understood}
 use Rattle.sqlite.specs.State.{State, Executes}
-use Rattle.sqlite.proofs.Callers.{IsPlain, command_of}
-use Rattle.lab_store_tables.specs.Schema.{lab_schema}
-use Rattle.lab_store_tables.specs.Schema as schema
-use Rattle.lab_store_tables.specs.Rows.{PersonRow, person_row, person_id, tables_in}
+use Rattle.lab_store_tables.specs.Rows.{PersonRow, person_id, tables_in}
 use Rattle.lab_store_tables.specs.Changes.{put_person, set_person}
 use Rattle.lab_store_tables.specs.Held.{IsTyped}
-use Rattle.lab_store_tables.specs.Family.{Persons, values_of}
-use Rattle.lab_store_laws.proofs.Tables.{held_if_stored, stored_with, rising_with}
-use Rattle.lab_store_write.proofs.Columns.{stays}
+use Rattle.lab_store_tables.specs.Sheets.{names}
+use Rattle.lab_store_tables.specs.Family.{Persons, kept, values_of}
 use Rattle.lab_store_write.proofs.Inserts.{adds}
-use Rattle.lab_store_write.proofs.Writes.{by_id_query, set_by_id, update_same}
+use Rattle.lab_store_write.proofs.Updates.{IsUpdate, given, by_id, sets}
+use Rattle.lab_store_write.proofs.Writes.{update_same}
 use Rattle.lab_store_write.proofs.Inside.{Wrote}
 
 -- ---- a row more of persons
@@ -41,29 +36,17 @@ adds_person = adds Persons
 abbrev pub set_person_text : List ℕ
 set_person_text = codes "UPDATE persons SET lab = ?2, code = ?3, name = ?4, roles = ?5, retired = ?6, failures = ?7, locked = ?8, kind = ?9, salt = ?10, rounds = ?11, bytes = ?12, salt2 = ?13, rounds2 = ?14, bytes2 = ?15, changed = ?16, asker = ?17, asked = ?18, ask_salt = ?19, ask_rounds = ?20, ask_bytes = ?21 WHERE id = ?1"
 
-abbrev set_person_shown : List Term
-set_person_shown = col 1 0 ∷ col 1 0 ∷ lit Null ∷ col 0 1 ∷ col 0 2 ∷ col 0 3 ∷ col 0 4 ∷ col 0 5 ∷ col 0 6 ∷ col 0 7 ∷ col 0 8 ∷ col 0 9 ∷ col 0 10 ∷ col 0 11 ∷ col 0 12 ∷ col 0 13 ∷ col 0 14 ∷ col 0 15 ∷ col 0 16 ∷ col 0 17 ∷ col 0 18 ∷ col 0 19 ∷ col 0 20 ∷ []
-
-set_person_plain : IsPlain (understood lab_schema set_person_text)
+set_person_is : IsUpdate Persons by_id (given 1 (names (kept Persons).sheet.columns)) set_person_text
 unfolding understood everything
-set_person_plain = (refl, refl)
-
-set_person_is : command_of (understood lab_schema set_person_text) ≡ Update 2 (record { lets = []; body = by_id_query 3 set_person_shown })
-unfolding understood everything
-set_person_is = refl
+set_person_is = ((refl, refl), refl)
 
 pub sets_person : (row : PersonRow) (old new : State) (count : ℕ) → IsTyped old.now → Executes set_person_text (Int row.id ∷ person_values row) old new (Ok count)
     → Wrote (set_person row (tables_in old.now.trees)) new.now
 sets_person row old new count typed did =
-    let t = tables_in old.now.trees in
     let mine = λ (one : PersonRow). int_eq one.id row.id in
     let next = λ (one : PersonRow). record row { id = one.id } in
-    let rows = update_where mine next t.persons in
-    let it = set_by_id schema.persons person_id person_row (λ _. (refl, refl)) (stays Persons) 2 refl (λ _. refl) set_person_text set_person_shown set_person_plain set_person_is row.id (person_values row) next (λ _. refl) (λ _. refl) old new count t.persons typed.schema (typed.stored.at Persons) (typed.rising.at Persons) did in
-    let same : rows ≡ update_where mine (λ (one : PersonRow). row) t.persons = update_same mine next (λ (one : PersonRow). row) (λ one here. ap (λ (id : ℤ). record row { id = id }) (same_int one.id row.id here)) t.persons in
-    subst (λ (l : List PersonRow). Wrote (record t { persons = l }) new.now) same
-    (record {
-      held = held_if_stored new.now (record t { persons = rows }) it.schema (stored_with Persons old.now.trees new.now.trees t rows typed.stored it.spared it.rows)
-          (rising_with Persons t rows typed.rising (IsKeyedBy-update_where person_id mine next (λ _. refl) t.persons (typed.rising.at Persons)));
-      sound = it.sound;
-    })
+    let persons = (tables_in old.now.trees).persons in
+    let same : update_where mine next persons ≡ update_where mine (λ (one : PersonRow). row) persons =
+    update_same mine next (λ (one : PersonRow). row) (λ one here. ap (λ (id : ℤ). record row { id = id }) (same_int one.id row.id here)) persons in
+    subst (λ (l : List PersonRow). Wrote (record (tables_in old.now.trees) { persons = l }) new.now) same
+    (sets Persons (given 1 (names (kept Persons).sheet.columns)) set_person_text set_person_is row.id (person_values row) next (λ _. refl) (λ _. refl) old new count typed did)

@@ -5,18 +5,17 @@ use Rattle.std.proofs.lemmas.Int.{ints}
 use Rattle.std.proofs.lemmas.Bool.{and_parts, and_from, not-true, both_ways}
 use Rattle.std.proofs.lemmas.Map.Text.{is_eq-slice_cmp}
 use Rattle.sqlite_value.specs.declared.keys.Collation.TheVariants.{Binary}
-use Rattle.sqlite_value.specs.declared.value.Value.TheVariants.{Null, Int, Blob}
+use Rattle.sqlite_value.specs.declared.value.Value.TheVariants.{Int, Blob}
 use Rattle.sqlite_value.specs.Keys.{plain, first_key}
 use Rattle.sqlite_value.specs.Order.{Row, column}
 use Rattle.sqlite_value.proofs.OrderLemmas.{value_cmp-Int, value_cmp-Blob}
 use Rattle.sqlite_schema.specs.declared.schema.Constraint.TheVariants.{Unique}
 use Rattle.sqlite_schema.specs.declared.schema.Schema.{Schema}
-use Rattle.sqlite_schema.specs.declared.command.Command.TheVariants.{Update}
 use Rattle.sqlite_schema.specs.Rules.{Obeys, agree, differ, clashes}
 use Rattle.sqlite_sql.specs.declared.ops.BinaryOp.TheVariants.{Compare}
 use Rattle.sqlite_sql.specs.declared.ops.CompareOp.TheVariants.{Eq}
 use Rattle.sqlite_sql.specs.Ops.{binary, is_true}
-use Rattle.sqlite_sql.specs.Term.{Term, lit, col}
+use Rattle.sqlite_sql.specs.Term.{Term}
 use Rattle.sqlite_tied.specs.Compute.{everything}
 use Rattle.sqlite_rules.specs.Lists.{Has}
 use Rattle.sqlite_rules.proofs.ListLemmas.{all_has, all_from, some_from, has_filtered, has_kept}
@@ -24,28 +23,23 @@ use Rattle.sqlite_keyed.specs.Keyed.{IsKeyedBy, next_key}
 use Rattle.sqlite_keyed.specs.Lists.{update_where}
 use Rattle.sqlite_keyed.specs.Rules.{AreApart}
 use Rattle.sqlite_keyed.proofs.ListLemmas.{ascending_weaker, slice_get-filter}
-use Rattle.sqlite_keyed.proofs.KeyedLemmas.{Less-from_lt, int_eq_apart, IsKeyedBy-update_where, same_int}
+use Rattle.sqlite_keyed.proofs.KeyedLemmas.{Less-from_lt, int_eq_apart, same_int}
 use Rattle.sqlite.specs.Effect.{Database, IsDatabase}
 use Rattle.sqlite.specs.Listing.{understood}
 use Rattle.sqlite.specs.State.{State, Executes}
-use Rattle.sqlite.proofs.Callers.{IsPlain, command_of}
 use Rattle.lab_people_access.specs.declared.sessions.Session.{Session}
 use Rattle.lab_store_tables.specs.Schema.{lab_schema}
-use Rattle.lab_store_tables.specs.Schema as schema
 use Rattle.lab_store_tables.specs.Rows.{SessionRow, Tables, session_row, session_id, tables_in, number, flag}
 use Rattle.lab_store_tables.specs.Changes.{is_session, put_session, session_row_of}
 use Rattle.lab_store_tables.specs.Held.{IsTyped}
 use Rattle.lab_store_tables.specs.Family.{Sessions, values_of}
 use Rattle.lab_store_laws.proofs.LabLaws.{same_id}
 use Rattle.lab_store_laws.proofs.RowSet.{map_alike}
-use Rattle.lab_store_laws.proofs.Tables.{held_if_stored, stored_with, rising_with}
 use Rattle.lab_store_columns.proofs.Texts.{is_param}
 use Rattle.lab_store_columns.proofs.Sorted.{truth_is, equal_ints, and_true}
 use Rattle.lab_store_columns.proofs.Lists.{int_alike, text_is, text_alike}
-use Rattle.lab_store_write.proofs.Columns.{stays}
 use Rattle.lab_store_write.proofs.Inserts.{adds}
-use Rattle.lab_store_write.proofs.Writes.{by_tests_query}
-use Rattle.lab_store_write.proofs.ByKey.{set_by_key}
+use Rattle.lab_store_write.proofs.Updates.{IsUpdate, given, sets_where}
 use Rattle.lab_store_write.proofs.Inside.{Wrote}
 use Rattle.lab_store_write_people.specs.Added.{SetsIfAny}
 
@@ -80,16 +74,12 @@ set_session_text = codes "UPDATE sessions SET person = ?3, number = ?4, opened =
 abbrev set_session_tests : List Term
 set_session_tests = is_param 2 0 ∷ is_param 5 1 ∷ []
 
-abbrev set_session_shown : List Term
-set_session_shown = col 1 0 ∷ col 1 0 ∷ lit Null ∷ col 1 2 ∷ col 0 2 ∷ col 0 3 ∷ col 1 5 ∷ col 0 4 ∷ col 0 5 ∷ col 0 6 ∷ col 0 7 ∷ []
+abbrev setting : List (List ℕ × Term)
+setting = given 2 (codes "person" ∷ codes "number" ∷ codes "opened" ∷ codes "last" ∷ codes "closed" ∷ codes "signed" ∷ [])
 
-set_session_plain : IsPlain (understood lab_schema set_session_text)
+set_session_is : IsUpdate Sessions set_session_tests setting set_session_text
 unfolding understood everything
-set_session_plain = (refl, refl)
-
-set_session_is : command_of (understood lab_schema set_session_text) ≡ Update 3 (record { lets = []; body = by_tests_query 5 set_session_tests set_session_shown })
-unfolding understood everything
-set_session_is = refl
+set_session_is = ((refl, refl), refl)
 
 -- the laboratory and the token, and then what is set
 abbrev pub set_session_values : ℤ → ℤ → Session → Row
@@ -152,16 +142,10 @@ sets_session lab person session old new count typed did =
     let t = tables_in old.now.trees in
     let mine = is_session lab session.token in
     let next = λ (one : SessionRow). record one { person = person; number = session.number; opened = session.opened; last = session.last; closed = session.closed; signed = session.signed } in
-    let rows = update_where mine next t.sessions in
-    let it = set_by_key schema.sessions session_id session_row (λ _. (refl, refl)) (stays Sessions) 3 refl (λ _. refl) set_session_text set_session_tests set_session_shown set_session_plain set_session_is
-    (set_session_values lab person session) mine next (λ x. ap₂ ◌&&◌ (equal_ints x.lab lab) (and_true _ ∙ equal_blobs x.token session.token)) (λ _. refl) (λ _. refl)
-    (λ db named rules a b. one_token lab session.token db named rules (next a) (next b)) old new count t.sessions typed.schema (typed.stored.at Sessions) (typed.rising.at Sessions) did in
-    let after = record t { sessions = rows } in
-    let wrote : Wrote after new.now = record {
-      held = held_if_stored new.now after it.replaced.schema (stored_with Sessions old.now.trees new.now.trees t rows typed.stored it.replaced.spared it.replaced.rows)
-          (rising_with Sessions t rows typed.rising (IsKeyedBy-update_where session_id mine next (λ _. refl) t.sessions (typed.rising.at Sessions)));
-      sound = it.replaced.sound;
-    } in
+    let it = sets_where Sessions set_session_tests setting set_session_text set_session_is (set_session_values lab person session) mine next
+    (λ x. ap₂ ◌&&◌ (equal_ints x.lab lab) (and_true _ ∙ equal_blobs x.token session.token)) (λ _. refl) (λ _. refl)
+    (λ db named rules a b. one_token lab session.token db named rules (next a) (next b)) old new count typed did in
+    let after = record t { sessions = update_where mine next t.sessions } in
     let set : SetsIfAny lab person session count t after = λ asked.
     let one = it.one asked.0 in
     let row = session_row_of lab one.0.id person session in
@@ -174,4 +158,4 @@ sets_session lab person session old new count typed did =
       named = asked.1;
       made = ap (λ (l : List SessionRow). record t { sessions = l }) (sets_one mine next t.sessions (typed.rising.at Sessions) one.0 one.1 row refl same);
     } in
-    (after, wrote, set)
+    (after, it.wrote, set)

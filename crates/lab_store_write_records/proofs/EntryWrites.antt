@@ -1,9 +1,8 @@
 -- What each statement on entries and signatures means, and what it makes of the tables.
-use Rattle.std.proofs.Common.{◌≡◌, ℕ, List, [], ◌∷◌, codes, Ok}
+use Rattle.std.proofs.Common.{◌≡◌, ℕ, List, codes, Ok}
 use Rattle.sqlite_value.specs.Order.{Row}
 use Rattle.sqlite_keyed.specs.Keyed.{next_key}
 use Rattle.sqlite.specs.State.{State, Executes}
-use Rattle.lab_store_tables.specs.Schema as schema
 use Rattle.lab_store_tables.specs.Rows.{EntryRow, entry_id, SignatureRow, signature_id, tables_in}
 use Rattle.lab_store_tables.specs.Changes.{put_entry, put_signature}
 use Rattle.lab_store_tables.specs.Held.{IsTyped}

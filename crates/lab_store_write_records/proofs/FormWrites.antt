@@ -1,9 +1,8 @@
 -- What each statement on forms means, and what it makes of the tables.
-use Rattle.std.proofs.Common.{◌≡◌, ℕ, List, [], ◌∷◌, codes, Ok}
+use Rattle.std.proofs.Common.{◌≡◌, ℕ, List, codes, Ok}
 use Rattle.sqlite_value.specs.Order.{Row}
 use Rattle.sqlite_keyed.specs.Keyed.{next_key}
 use Rattle.sqlite.specs.State.{State, Executes}
-use Rattle.lab_store_tables.specs.Schema as schema
 use Rattle.lab_store_tables.specs.Rows.{FormRow, form_id, FieldRow, field_id, ChoiceRow, choice_id, tables_in}
 use Rattle.lab_store_tables.specs.Changes.{put_form, put_field, put_choice}
 use Rattle.lab_store_tables.specs.Held.{IsTyped}
