@@ -20,6 +20,7 @@ use Rattle.lab_store_tables.specs.Rows.{LabRow, RecordRow, VersionRow, EntryRow,
 use Rattle.lab_store_tables.specs.Columns.{format_number}
 use Rattle.lab_store_tables.specs.Meaning.{lab_in, record_in, by_record}
 use Rattle.lab_store_tables.specs.WellKept.{have_own_ids, lab_of_person, lab_of_form, lab_of_record, lab_of_version, has_counted, is_current, AreWellKept}
+use Rattle.lab_store_tables.specs.Family.{Records, Versions}
 use Rattle.lab_store_tables.specs.Changes.{IsFree, InTurn, form_named, record_row_of, put_record, AddsEntry, AddsSignature, version_row_of, put_version, AddsVersion, AddsRecord, in_lab}
 use Rattle.lab_store_laws.proofs.LabLaws.{alike}
 use Rattle.lab_store_laws.specs.ByRules.{IsByRules}
@@ -28,7 +29,7 @@ use Rattle.lab_store_laws.proofs.PutRows.{count_put, new_found}
 use Rattle.lab_store_laws.proofs.FreeIds.{none_has, none_leads}
 use Rattle.lab_store_laws.proofs.Ids.{own_ids, versions_lead}
 use Rattle.lab_store_laws.proofs.Named.{turned, of_same, named_lab, form_lab, form_code}
-use Rattle.lab_store_laws.proofs.Puts.{record_put, version_put}
+use Rattle.lab_store_laws.proofs.Puts.{put_kept}
 use Rattle.lab_store_laws.proofs.Sets.{lab_set}
 use Rattle.lab_store_laws.proofs.Counters.{records_counted}
 use Rattle.lab_store_laws.proofs.Shown.{as_many}
@@ -115,9 +116,11 @@ module _ (t : Tables) (lab kept : ℤ) (held : HaveRecord lab kept t) (version :
 
   start_rows : AreRowsKept start
   start_rows =
-      version_put t new added.free
-      (of_same (lab_of_person t added.opener) (lab_of_record t kept) lab (named_lab t held.persons lab version.opener added.opener added.named) held.its)
-      next reason (format_known version.format) held.rows
+      put_kept Versions t new added.free (
+        of_same (lab_of_person t added.opener) (lab_of_record t kept) lab (named_lab t held.persons lab version.opener added.opener added.named) held.its,
+        reason,
+        format_known version.format,
+      ) next held.rows
 
   start_its : lab_of_version start added.id ≡ Some lab
   start_its =
@@ -211,9 +214,10 @@ module _ (t : Tables) (well : AreWellKept t) (row : LabRow) (kept : Record) (who
   record_rows : AreRowsKept with_record
   record_rows =
       lab_set (put_record new_record t) row.id (λ (one : LabRow). record one { records = kept.number })
-      (record_put t new_record free
-      (of_same (lab_of_form t form) (Some row.id) row.id (form_lab t (own_ids t well.ids).forms row.id kept.form.code kept.form.version form named) refl) its_number
-      (form_code t (own_ids t well.ids).forms row.id kept.form.code kept.form.version form named) (all_kept t well).rows)
+      (put_kept Records t new_record free (
+        of_same (lab_of_form t form) (Some row.id) row.id (form_lab t (own_ids t well.ids).forms row.id kept.form.code kept.form.version form named) refl,
+        form_code t (own_ids t well.ids).forms row.id kept.form.code kept.form.version form named,
+      ) its_number (all_kept t well).rows)
 
   record_counts : AreCounted with_record
   record_counts = records_counted t new_record free its_number (all_kept t well).counters

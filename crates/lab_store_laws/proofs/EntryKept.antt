@@ -5,6 +5,7 @@ use Rattle.lab_seal_versions.specs.Seals.{meaning_word}
 use Rattle.lab_records_kept.specs.declared.records.Signature.{Signature}
 use Rattle.lab_records_kept.specs.declared.changes.Change.TheVariants.{RowAdded, SignatureAdded}
 use Rattle.lab_store_tables.specs.Rows.{Tables, person_id, entry_id, signature_id}
+use Rattle.lab_store_tables.specs.Family.{Entries, Signatures}
 use Rattle.lab_store_tables.specs.Columns.{reason_column}
 use Rattle.lab_store_tables.specs.WellKept.{have_own_ids, lab_of_person, lab_of_version, IsSignatureSpelled, AreWellKept}
 use Rattle.lab_store_tables.specs.Changes.{IsFree, person_named, entry_row_of, put_entry, signature_row_of, put_signature, Applies}
@@ -13,13 +14,13 @@ use Rattle.lab_store_laws.specs.ByRules.{IsByRules}
 use Rattle.lab_store_laws.proofs.Kept.{AreRowsKept, AreAllKept, all_kept, well_kept}
 use Rattle.lab_store_laws.proofs.Ids.{own_ids}
 use Rattle.lab_store_laws.proofs.Named.{of_same, named_lab, record_lab, version_lab}
-use Rattle.lab_store_laws.proofs.Puts.{entry_put, signature_put}
+use Rattle.lab_store_laws.proofs.Puts.{put_kept}
 
 module _ (t : Tables) (own : have_own_ids person_id t.persons ≡ true) (lab version : ℤ) (its : lab_of_version t version ≡ Some lab) (id person : ℤ) where
   pub entry_more : (entry : Entry) → IsFree entry_id t.entries id → person_named t lab entry.person ≡ Some person → AreRowsKept t
       → AreRowsKept (put_entry (entry_row_of t version id person entry) t)
   entry_more entry free named kept =
-      entry_put t (entry_row_of t version id person entry) free
+      put_kept Entries t (entry_row_of t version id person entry) free
       (of_same (lab_of_person t person) (lab_of_version t version) lab (named_lab t own lab entry.person person named) its) refl kept
 
   signature_spelled : (signature : Signature) → IsSignatureSpelled (signature_row_of t version id person signature)
@@ -28,9 +29,8 @@ module _ (t : Tables) (own : have_own_ids person_id t.persons ≡ true) (lab ver
   pub signature_more : (signature : Signature) → IsFree signature_id t.signatures id → person_named t lab signature.person ≡ Some person → AreRowsKept t
       → AreRowsKept (put_signature (signature_row_of t version id person signature) t)
   signature_more signature free named kept =
-      signature_put t (signature_row_of t version id person signature) free
-      (of_same (lab_of_person t person) (lab_of_version t version) lab (named_lab t own lab signature.person person named) its) refl
-      (signature_spelled signature) kept
+      put_kept Signatures t (signature_row_of t version id person signature) free
+      (of_same (lab_of_person t person) (lab_of_version t version) lab (named_lab t own lab signature.person person named) its, signature_spelled signature) refl kept
 
 -- a row in the last version of a record
 pub row_added_keeps : {old new : Tables} {code : List ℕ} {number : ℕ} {entry : Entry} → AreWellKept old → IsByRules new

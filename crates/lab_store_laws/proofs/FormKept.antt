@@ -20,17 +20,18 @@ use Rattle.lab_store_tables.specs.Rows.{FormRow, FieldRow, Tables, form_id, fiel
 use Rattle.lab_store_tables.specs.Columns.{kind_columns, kind_names}
 use Rattle.lab_store_tables.specs.Meaning.{meaning, form_in, by_form, forms_of}
 use Rattle.lab_store_tables.specs.WellKept.{same_code, same_form, AreWellKept}
+use Rattle.lab_store_tables.specs.Family.{Forms, Fields, Choices}
 use Rattle.lab_store_tables.specs.Changes.{IsFree, InTurn, choice_row_of, AddsChoice, field_row_of, put_field, AddsField, form_row_of, put_form, Applies}
 use Rattle.lab_store_laws.proofs.Bridges.{apart_from_test}
 use Rattle.lab_store_laws.proofs.ColumnsBack.{kind_spelled}
 use Rattle.lab_store_laws.proofs.LabLaws.{alike, text_is}
 use Rattle.lab_store_laws.specs.ByRules.{IsByRules}
-use Rattle.lab_store_laws.proofs.Kept.{is_numbered, form_number, AreAllKept, rows_kept, all_kept, well_kept}
+use Rattle.lab_store_laws.proofs.Kept.{is_numbered, number_of, AreAllKept, rows_kept, all_kept, well_kept}
 use Rattle.lab_store_laws.proofs.PutRows.{within_to, new_found}
 use Rattle.lab_store_laws.proofs.NextNumber.{next_number}
 use Rattle.lab_store_laws.proofs.Ids.{own_keys}
 use Rattle.lab_store_laws.proofs.Named.{text_alike}
-use Rattle.lab_store_laws.proofs.Puts.{form_put, field_put, choice_put}
+use Rattle.lab_store_laws.proofs.Puts.{put_kept}
 use Rattle.lab_store_laws.proofs.Shown.{IsShown, all_shown, all_reversed, fits_here}
 use Rattle.lab_store_laws.proofs.Turns.{turns_leave, turns_keep}
 
@@ -48,7 +49,7 @@ choice_more field name old new it held =
     subst (HasChoices field) (sym it.made) (
       held.0,
       record {
-        rows = choice_put old (choice_row_of old field it.id name) it.free held.0 refl held.1.rows;
+        rows = put_kept Choices old (choice_row_of old field it.id name) it.free held.0 refl held.1.rows;
         counters = held.1.counters;
         currents = held.1.currents;
       },
@@ -80,7 +81,7 @@ module _ (form : ℤ) (field : Field) (old : Tables) (id : ℤ) (free : IsFree f
 
   with_field_kept : AreAllKept old → AreAllKept with_field
   with_field_kept kept = record {
-    rows = field_put old new_field free refl (kind_spelled field.kind) kept.rows;
+    rows = put_kept Fields old new_field free (kind_spelled field.kind) refl kept.rows;
     counters = kept.counters;
     currents = kept.currents;
   }
@@ -119,7 +120,7 @@ code_alike rows one other same =
     sym there
 
 -- two versions of one form that have one number clash
-codes_clash : (row one other : FormRow) → same_code row one ≡ true → same_code row other ≡ true → (form_number one == form_number other) ≡ true
+codes_clash : (row one other : FormRow) → same_code row one ≡ true → same_code row other ≡ true → (one.version == other.version) ≡ true
     → same_form one other ≡ true
 codes_clash row one other own beside number =
     let first = and_parts (int_eq row.lab one.lab) (bytes_eq row.code one.code) own in
@@ -147,7 +148,7 @@ module _ (t : Tables) (well : AreWellKept t) (lab : ℤ) (form : FormVersion) (i
       let code : it.0.code ≡ form.code = sym (ap (λ (x : FormVersion). x.code) it.3) ∙ text_is last.code form.code has.1 in
       let same : same_code new_form it.0 ≡ true = and_from (int_eq lab it.0.lab) (bytes_eq form.code it.0.code) (alike lab it.0.lab (sym beside))
       (text_alike form.code it.0.code (sym code)) in
-      let numbered = all_has (λ (one : FormRow). is_numbered same_code form_number t.forms one ≡ true) t.forms it.0 (rows_kept t well).forms it.1 in
+      let numbered = all_has (λ (one : FormRow). is_numbered same_code (number_of Forms) t.forms one ≡ true) t.forms it.0 ((rows_kept t well).at Forms).1 it.1 in
       let most = (within_to it.0.version (length (filter (same_code it.0) t.forms)) numbered).1 in
       let number : last.version ≡ it.0.version = ap (λ (x : FormVersion). x.version) it.3 in
       let count = code_alike t.forms new_form it.0 same in
@@ -164,13 +165,13 @@ module _ (t : Tables) (well : AreWellKept t) (lab : ℤ) (form : FormVersion) (i
       → form.version ≡ length (filter (same_code new_form) t.forms) + 1
   new_number apart next =
       let within = next_within (last_form (forms_of t lab) form.code) refl next in
-      next_number form_id same_code same_form form_number t.forms new_form free new_self (rows_kept t well).forms (code_alike t.forms new_form) apart
+      next_number form_id same_code same_form (number_of Forms) t.forms new_form free new_self ((rows_kept t well).at Forms).1 (code_alike t.forms new_form) apart
       (codes_clash new_form) within.0 within.1
 
   with_form_kept : form.version ≡ length (filter (same_code new_form) t.forms) + 1 → AreAllKept (put_form new_form t)
   with_form_kept next =
       let kept = all_kept t well in record {
-        rows = form_put t new_form free next kept.rows;
+        rows = put_kept Forms t new_form free tt next kept.rows;
         counters = kept.counters;
         currents = kept.currents;
       }

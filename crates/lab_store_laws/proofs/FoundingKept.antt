@@ -10,32 +10,20 @@ use Rattle.lab_records_kept.specs.Births.{newborn_lab}
 use Rattle.lab_records_kept.specs.Trails.{row_of}
 use Rattle.lab_store_tables.specs.Rows.{LabRow, PersonRow, SessionRow, RecordRow, TrailRow, Tables, lab_id, person_id}
 use Rattle.lab_store_tables.specs.WellKept.{have_own_ids, has_counted, AreWellKept}
+use Rattle.lab_store_tables.specs.Family.{Labs}
 use Rattle.lab_store_tables.specs.Changes.{IsFree, person_row_of, AddsPerson, SetsPerson}
 use Rattle.lab_store_tables.specs.Placing.{lab_row_of, put_lab, unasked, is_asked_for, PlacesLab}
 use Rattle.lab_store_laws.specs.ByRules.{IsByRules}
-use Rattle.lab_store_laws.proofs.Kept.{AreRowsKept, AreCounted, AreAllKept, all_kept, well_kept}
+use Rattle.lab_store_laws.proofs.Kept.{AreCounted, AreAllKept, all_kept, well_kept}
 use Rattle.lab_store_laws.proofs.Ids.{own_ids, labs_lead}
 use Rattle.lab_store_laws.proofs.FreeIds.{none_leads, own_put, own_set}
+use Rattle.lab_store_laws.proofs.Puts.{put_kept}
 use Rattle.lab_store_laws.proofs.Sets.{replaced_id}
 use Rattle.lab_store_laws.proofs.Turns.{turns_leave, turns_keep}
 use Rattle.lab_store_laws.proofs.PersonKept.{person_added, person_replaced}
 use Rattle.lab_store_laws.proofs.TrailKept.{told_more}
 
 -- ---- the laboratory's row, whose counters begin at none
-
-lab_put : (t : Tables) (row : LabRow) → AreRowsKept t → AreRowsKept (put_lab row t)
-lab_put t row kept = record {
-  persons = kept.persons;
-  sessions = kept.sessions;
-  forms = kept.forms;
-  fields = kept.fields;
-  choices = kept.choices;
-  records = kept.records;
-  versions = kept.versions;
-  entries = kept.entries;
-  signatures = kept.signatures;
-  trail = kept.trail;
-}
 
 module _ (t : Tables) (well : AreWellKept t) (lab : Lab) (id : ℤ) (free : IsFree lab_id t.labs id) where
   abbrev new_lab : LabRow
@@ -59,7 +47,7 @@ module _ (t : Tables) (well : AreWellKept t) (lab : Lab) (id : ℤ) (free : IsFr
   pub lab_more : AreAllKept (put_lab new_lab t)
   lab_more =
       let kept = all_kept t well in record {
-        rows = lab_put t new_lab kept.rows;
+        rows = put_kept Labs t new_lab free tt tt kept.rows;
         counters = founded_counted;
         currents = kept.currents;
       }

@@ -2,10 +2,11 @@
 -- leads, and then what is said twice.
 use Rattle.std.proofs.Common.{◌≡◌, ℕ, Bool, true, ◌&&◌, List, length, filter, int_eq}
 use Rattle.std.specs.Prelude.{nat_le}
-use Rattle.std.specs.List.{AllByRecursion}
+use Rattle.std.specs.List.{list_all, AllByRecursion}
 use Rattle.std.proofs.lemmas.Bool.{and_parts, and_from}
-use Rattle.sqlite_keyed.proofs.ListLemmas.{all_from_test, test_from_all}
-use Rattle.lab_store_tables.specs.Rows.{PersonRow, SessionRow, FormRow, FieldRow, ChoiceRow, RecordRow, VersionRow, EntryRow, SignatureRow, TrailRow, Tables}
+use Rattle.sqlite_keyed.proofs.ListLemmas.{all_of, all_weaker, all_both, all_from_test, test_from_all}
+use Rattle.lab_store_tables.specs.Rows.{PersonRow, RecordRow, VersionRow, SignatureRow, TrailRow, Tables}
+use Rattle.lab_store_tables.specs.Family.{Name, Desk, Labs, Persons, Sessions, Forms, Fields, Choices, Records, Versions, Entries, Signatures, Trail, RowOf, rows}
 use Rattle.lab_store_tables.specs.WellKept.{same_code, is_asked_within, is_session_within, is_record_within, is_version_within, is_entry_within, is_signature_within, is_told_within, are_labs_apart, are_all_numbered, has_counted, is_current, names_its_form, is_said_alike, is_whole_ask, has_due_reason, has_format, is_of_choice, are_columns_whole, IsPersonSpelled, IsFieldSpelled, IsSignatureSpelled, IsTrailSpelled, AreWellKept}
 use Rattle.lab_store_laws.specs.ByRules.{IsByRules}
 
@@ -24,100 +25,56 @@ AreNumbered beside number rows = Pass (is_numbered beside number rows) rows
 
 -- ---- the rows beside a row, and its number among them
 
-abbrev pub session_beside : SessionRow → SessionRow → Bool
-session_beside one other = int_eq other.lab one.lab
+abbrev pub is_beside : (k : Name) → RowOf k → RowOf k → Bool
+is_beside Sessions one other = int_eq other.lab one.lab
+is_beside Forms one other = same_code one other
+is_beside Fields one other = int_eq other.form one.form
+is_beside Choices one other = int_eq other.field one.field
+is_beside Records one other = int_eq other.lab one.lab
+is_beside Versions one other = int_eq other.kept one.kept
+is_beside Entries one other = int_eq other.version one.version
+is_beside Signatures one other = int_eq other.version one.version
+is_beside Trail one other = int_eq other.lab one.lab
+is_beside _ one other = true
 
-abbrev pub session_number : SessionRow → ℕ
-session_number one = one.number
+abbrev pub number_of : (k : Name) → RowOf k → ℕ
+number_of Sessions one = one.number
+number_of Forms one = one.version
+number_of Fields one = one.place
+number_of Choices one = one.place
+number_of Records one = one.number
+number_of Versions one = one.number
+number_of Entries one = one.place
+number_of Signatures one = one.place
+number_of Trail one = one.number
+number_of _ one = 0
 
-abbrev pub form_number : FormRow → ℕ
-form_number one = one.version
+-- in each table whose rows have numbers
+abbrev pub AreNumberedIn : (k : Name) → List (RowOf k) → Type 0
+AreNumberedIn Desk rows = Unit {0}
+AreNumberedIn Labs rows = Unit {0}
+AreNumberedIn Persons rows = Unit {0}
+AreNumberedIn k rows = AreNumbered (is_beside k) (number_of k) rows
 
-abbrev pub field_beside : FieldRow → FieldRow → Bool
-field_beside one other = int_eq other.form one.form
+-- ---- a row of each table, whose arrows lead into the tables, and all of its rows
 
-abbrev pub field_place : FieldRow → ℕ
-field_place one = one.place
+abbrev pub IsRowKept : (k : Name) → Tables → RowOf k → Type 0
+IsRowKept Persons t one = (is_asked_within t one ≡ true) × (is_whole_ask one.ask ≡ true) × IsPersonSpelled one
+IsRowKept Sessions t one = is_session_within t one ≡ true
+IsRowKept Fields t one = IsFieldSpelled one
+IsRowKept Choices t one = is_of_choice t one ≡ true
+IsRowKept Records t one = (is_record_within t one ≡ true) × (names_its_form t one ≡ true)
+IsRowKept Versions t one = (is_version_within t one ≡ true) × (has_due_reason one ≡ true) × (has_format one ≡ true)
+IsRowKept Entries t one = is_entry_within t one ≡ true
+IsRowKept Signatures t one = (is_signature_within t one ≡ true) × IsSignatureSpelled one
+IsRowKept Trail t one = (is_told_within t one ≡ true) × IsTrailSpelled one
+IsRowKept _ t one = Unit {0}
 
-abbrev pub choice_beside : ChoiceRow → ChoiceRow → Bool
-choice_beside one other = int_eq other.field one.field
-
-abbrev pub choice_place : ChoiceRow → ℕ
-choice_place one = one.place
-
-abbrev pub record_beside : RecordRow → RecordRow → Bool
-record_beside one other = int_eq other.lab one.lab
-
-abbrev pub record_number : RecordRow → ℕ
-record_number one = one.number
-
-abbrev pub version_beside : VersionRow → VersionRow → Bool
-version_beside one other = int_eq other.kept one.kept
-
-abbrev pub version_number : VersionRow → ℕ
-version_number one = one.number
-
-abbrev pub entry_beside : EntryRow → EntryRow → Bool
-entry_beside one other = int_eq other.version one.version
-
-abbrev pub entry_place : EntryRow → ℕ
-entry_place one = one.place
-
-abbrev pub signature_beside : SignatureRow → SignatureRow → Bool
-signature_beside one other = int_eq other.version one.version
-
-abbrev pub signature_place : SignatureRow → ℕ
-signature_place one = one.place
-
-abbrev pub told_beside : TrailRow → TrailRow → Bool
-told_beside one other = int_eq other.lab one.lab
-
-abbrev pub told_number : TrailRow → ℕ
-told_number one = one.number
-
--- ---- rows of each table, whose arrows lead into the tables
-
-abbrev pub PersonsKept : Tables → List PersonRow → Type 0
-PersonsKept t rows = Pass (is_asked_within t) rows × Pass (λ (one : PersonRow). is_whole_ask one.ask) rows × AllByRecursion IsPersonSpelled rows
-
-abbrev pub SessionsKept : Tables → List SessionRow → Type 0
-SessionsKept t rows = Pass (is_session_within t) rows × AreNumbered session_beside session_number rows
-
-abbrev pub FormsKept : List FormRow → Type 0
-FormsKept rows = AreNumbered same_code form_number rows
-
-abbrev pub FieldsKept : List FieldRow → Type 0
-FieldsKept rows = AreNumbered field_beside field_place rows × AllByRecursion IsFieldSpelled rows
-
-abbrev pub ChoicesKept : Tables → List ChoiceRow → Type 0
-ChoicesKept t rows = Pass (is_of_choice t) rows × AreNumbered choice_beside choice_place rows
-
-abbrev pub RecordsKept : Tables → List RecordRow → Type 0
-RecordsKept t rows = Pass (is_record_within t) rows × AreNumbered record_beside record_number rows × Pass (names_its_form t) rows
-
-abbrev pub VersionsKept : Tables → List VersionRow → Type 0
-VersionsKept t rows = Pass (is_version_within t) rows × AreNumbered version_beside version_number rows × Pass has_due_reason rows × Pass has_format rows
-
-abbrev pub EntriesKept : Tables → List EntryRow → Type 0
-EntriesKept t rows = Pass (is_entry_within t) rows × AreNumbered entry_beside entry_place rows
-
-abbrev pub SignaturesKept : Tables → List SignatureRow → Type 0
-SignaturesKept t rows = Pass (is_signature_within t) rows × AreNumbered signature_beside signature_place rows × AllByRecursion IsSignatureSpelled rows
-
-abbrev pub TrailKept : Tables → List TrailRow → Type 0
-TrailKept t rows = Pass (is_told_within t) rows × AreNumbered told_beside told_number rows × AllByRecursion IsTrailSpelled rows
+abbrev pub AreKept : (k : Name) → Tables → List (RowOf k) → Type 0
+AreKept k t rows = AllByRecursion (IsRowKept k t) rows × AreNumberedIn k rows
 
 pub record AreRowsKept (t : Tables) : Type 0 where
-  pub persons : PersonsKept t t.persons
-  pub sessions : SessionsKept t t.sessions
-  pub forms : FormsKept t.forms
-  pub fields : FieldsKept t.fields
-  pub choices : ChoicesKept t t.choices
-  pub records : RecordsKept t t.records
-  pub versions : VersionsKept t t.versions
-  pub entries : EntriesKept t t.entries
-  pub signatures : SignaturesKept t t.signatures
-  pub trail : TrailKept t t.trail
+  pub at : (k : Name) → AreKept k t (rows k t)
 
 -- ---- what is said twice: the counters of laboratories, and the current version of records
 
@@ -154,9 +111,9 @@ within_parts t apart =
     )
 
 number_parts : (t : Tables) → are_all_numbered t ≡ true
-    → AreNumbered session_beside session_number t.sessions × AreNumbered same_code form_number t.forms × AreNumbered field_beside field_place t.fields
-    × AreNumbered choice_beside choice_place t.choices × AreNumbered record_beside record_number t.records × AreNumbered version_beside version_number t.versions
-    × AreNumbered entry_beside entry_place t.entries × AreNumbered signature_beside signature_place t.signatures × AreNumbered told_beside told_number t.trail
+    → AreNumberedIn Sessions t.sessions × AreNumberedIn Forms t.forms × AreNumberedIn Fields t.fields × AreNumberedIn Choices t.choices
+    × AreNumberedIn Records t.records × AreNumberedIn Versions t.versions × AreNumberedIn Entries t.entries × AreNumberedIn Signatures t.signatures
+    × AreNumberedIn Trail t.trail
 number_parts t numbered =
     let trail = and_parts _ _ numbered in
     let signatures = and_parts _ _ trail.0 in
@@ -165,16 +122,17 @@ number_parts t numbered =
     let records = and_parts _ _ versions.0 in
     let choices = and_parts _ _ records.0 in
     let fields = and_parts _ _ choices.0 in
-    let forms = and_parts _ _ fields.0 in (
-      all_from_test (is_numbered session_beside session_number t.sessions) t.sessions forms.0,
-      all_from_test (is_numbered same_code form_number t.forms) t.forms forms.1,
-      all_from_test (is_numbered field_beside field_place t.fields) t.fields fields.1,
-      all_from_test (is_numbered choice_beside choice_place t.choices) t.choices choices.1,
-      all_from_test (is_numbered record_beside record_number t.records) t.records records.1,
-      all_from_test (is_numbered version_beside version_number t.versions) t.versions versions.1,
-      all_from_test (is_numbered entry_beside entry_place t.entries) t.entries entries.1,
-      all_from_test (is_numbered signature_beside signature_place t.signatures) t.signatures signatures.1,
-      all_from_test (is_numbered told_beside told_number t.trail) t.trail trail.1,
+    let forms = and_parts _ _ fields.0 in
+    let all = λ (k : Name) (h : list_all (is_numbered (is_beside k) (number_of k) (rows k t)) (rows k t) ≡ true). all_from_test (is_numbered (is_beside k) (number_of k) (rows k t)) (rows k t) h in (
+      all Sessions forms.0,
+      all Forms forms.1,
+      all Fields fields.1,
+      all Choices choices.1,
+      all Records records.1,
+      all Versions versions.1,
+      all Entries entries.1,
+      all Signatures signatures.1,
+      all Trail trail.1,
     )
 
 column_parts : (t : Tables) → are_columns_whole t ≡ true
@@ -198,22 +156,49 @@ alike_parts t alike =
       all_from_test (names_its_form t) t.records named.1,
     )
 
+-- three facts of each row, put together
+all_three : {X : Type 0} (P Q R : X → Type 0) (rows : List X) → AllByRecursion P rows → AllByRecursion Q rows → AllByRecursion R rows
+    → AllByRecursion (λ one. P one × Q one × R one) rows
+all_three P Q R rows ps qs rs =
+    all_both (λ one. P one × Q one) R (λ one. P one × Q one × R one) (λ one both r. (both.0, both.1, r)) rows
+    (all_both P Q (λ one. P one × Q one) (λ one p q. (p, q)) rows ps qs) rs
+
+kept_at : (t : Tables) → AreWellKept t → (k : Name) → AreKept k t (rows k t)
+kept_at t well Persons = (
+  all_three (λ (one : PersonRow). is_asked_within t one ≡ true) (λ (one : PersonRow). is_whole_ask one.ask ≡ true) IsPersonSpelled t.persons
+      (within_parts t well.labs_apart).0 (column_parts t well.columns).0 well.persons,
+  tt,
+)
+kept_at t well Sessions = ((within_parts t well.labs_apart).1, (number_parts t well.numbered).0)
+kept_at t well Forms = (all_of (IsRowKept Forms t) (λ _. tt) t.forms, (number_parts t well.numbered).1)
+kept_at t well Fields = (well.fields, (number_parts t well.numbered).2)
+kept_at t well Choices = ((column_parts t well.columns).3, (number_parts t well.numbered).3)
+kept_at t well Records = (
+  all_both (λ (one : RecordRow). is_record_within t one ≡ true) (λ (one : RecordRow). names_its_form t one ≡ true) (IsRowKept Records t) (λ one p q. (p, q))
+      t.records (within_parts t well.labs_apart).2 (alike_parts t well.alike).2,
+  (number_parts t well.numbered).4,
+)
+kept_at t well Versions = (
+  all_three (λ (one : VersionRow). is_version_within t one ≡ true) (λ (one : VersionRow). has_due_reason one ≡ true)
+      (λ (one : VersionRow). has_format one ≡ true) t.versions
+      (within_parts t well.labs_apart).3 (column_parts t well.columns).1 (column_parts t well.columns).2,
+  (number_parts t well.numbered).5,
+)
+kept_at t well Entries = ((within_parts t well.labs_apart).4, (number_parts t well.numbered).6)
+kept_at t well Signatures = (
+  all_both (λ (one : SignatureRow). is_signature_within t one ≡ true) IsSignatureSpelled (IsRowKept Signatures t) (λ one p q. (p, q)) t.signatures
+      (within_parts t well.labs_apart).5 well.signatures,
+  (number_parts t well.numbered).7,
+)
+kept_at t well Trail = (
+  all_both (λ (one : TrailRow). is_told_within t one ≡ true) IsTrailSpelled (IsRowKept Trail t) (λ one p q. (p, q)) t.trail
+      (within_parts t well.labs_apart).6 well.trail,
+  (number_parts t well.numbered).8,
+)
+kept_at t well k = (all_of (IsRowKept k t) (λ _. tt) (rows k t), tt)
+
 pub rows_kept : (t : Tables) → AreWellKept t → AreRowsKept t
-rows_kept t well =
-    let within = within_parts t well.labs_apart in
-    let numbered = number_parts t well.numbered in
-    let whole = column_parts t well.columns in record {
-      persons = (within.0, whole.0, well.persons);
-      sessions = (within.1, numbered.0);
-      forms = numbered.1;
-      fields = (numbered.2, well.fields);
-      choices = (whole.3, numbered.3);
-      records = (within.2, numbered.4, (alike_parts t well.alike).2);
-      versions = (within.3, numbered.5, whole.1, whole.2);
-      entries = (within.4, numbered.6);
-      signatures = (within.5, numbered.7, well.signatures);
-      trail = (within.6, numbered.8, well.trail);
-    }
+rows_kept t well = record { at = kept_at t well }
 
 pub all_kept : (t : Tables) → AreWellKept t → AreAllKept t
 all_kept t well = record {
@@ -224,41 +209,49 @@ all_kept t well = record {
 
 -- and together again
 module _ (t : Tables) (kept : AreRowsKept t) where
+  facts : (k : Name) (P : RowOf k → Type 0) → ((one : RowOf k) → IsRowKept k t one → P one) → AllByRecursion P (rows k t)
+  facts k P f = all_weaker (IsRowKept k t) P f (rows k t) (kept.at k).0
+
+  passes : (k : Name) (test : RowOf k → Bool) → ((one : RowOf k) → IsRowKept k t one → test one ≡ true) → list_all test (rows k t) ≡ true
+  passes k test f = test_from_all test (rows k t) (facts k (λ one. test one ≡ true) f)
+
   within_whole : are_labs_apart t ≡ true
   within_whole =
-      and_from _ _ (and_from _ _ (and_from _ _ (and_from _ _ (and_from _ _ (and_from _ _ (test_from_all (is_asked_within t) t.persons kept.persons.0)
-      (test_from_all (is_session_within t) t.sessions kept.sessions.0))
-      (test_from_all (is_record_within t) t.records kept.records.0))
-      (test_from_all (is_version_within t) t.versions kept.versions.0))
-      (test_from_all (is_entry_within t) t.entries kept.entries.0))
-      (test_from_all (is_signature_within t) t.signatures kept.signatures.0))
-      (test_from_all (is_told_within t) t.trail kept.trail.0)
+      and_from _ _ (and_from _ _ (and_from _ _ (and_from _ _ (and_from _ _ (and_from _ _ (passes Persons (is_asked_within t) (λ one h. h.0))
+      (passes Sessions (is_session_within t) (λ one h. h)))
+      (passes Records (is_record_within t) (λ one h. h.0)))
+      (passes Versions (is_version_within t) (λ one h. h.0)))
+      (passes Entries (is_entry_within t) (λ one h. h)))
+      (passes Signatures (is_signature_within t) (λ one h. h.0)))
+      (passes Trail (is_told_within t) (λ one h. h.0))
+
+  numbers : (k : Name) → AreNumbered (is_beside k) (number_of k) (rows k t) → list_all (is_numbered (is_beside k) (number_of k) (rows k t)) (rows k t) ≡ true
+  numbers k h = test_from_all (is_numbered (is_beside k) (number_of k) (rows k t)) (rows k t) h
 
   numbers_whole : are_all_numbered t ≡ true
   numbers_whole =
-      and_from _ _ (and_from _ _ (and_from _ _ (and_from _ _ (and_from _ _ (and_from _ _ (and_from _ _ (and_from _ _
-      (test_from_all (is_numbered session_beside session_number t.sessions) t.sessions kept.sessions.1)
-      (test_from_all (is_numbered same_code form_number t.forms) t.forms kept.forms))
-      (test_from_all (is_numbered field_beside field_place t.fields) t.fields kept.fields.0))
-      (test_from_all (is_numbered choice_beside choice_place t.choices) t.choices kept.choices.1))
-      (test_from_all (is_numbered record_beside record_number t.records) t.records kept.records.1))
-      (test_from_all (is_numbered version_beside version_number t.versions) t.versions kept.versions.1))
-      (test_from_all (is_numbered entry_beside entry_place t.entries) t.entries kept.entries.1))
-      (test_from_all (is_numbered signature_beside signature_place t.signatures) t.signatures kept.signatures.1))
-      (test_from_all (is_numbered told_beside told_number t.trail) t.trail kept.trail.1)
+      and_from _ _ (and_from _ _ (and_from _ _ (and_from _ _ (and_from _ _ (and_from _ _ (and_from _ _ (and_from _ _ (numbers Sessions (kept.at Sessions).1)
+      (numbers Forms (kept.at Forms).1))
+      (numbers Fields (kept.at Fields).1))
+      (numbers Choices (kept.at Choices).1))
+      (numbers Records (kept.at Records).1))
+      (numbers Versions (kept.at Versions).1))
+      (numbers Entries (kept.at Entries).1))
+      (numbers Signatures (kept.at Signatures).1))
+      (numbers Trail (kept.at Trail).1)
 
   columns_whole : are_columns_whole t ≡ true
   columns_whole =
-      and_from _ _ (and_from _ _ (and_from _ _ (test_from_all (λ (one : PersonRow). is_whole_ask one.ask) t.persons kept.persons.1)
-      (test_from_all has_due_reason t.versions kept.versions.2))
-      (test_from_all has_format t.versions kept.versions.3))
-      (test_from_all (is_of_choice t) t.choices kept.choices.0)
+      and_from _ _ (and_from _ _ (and_from _ _ (passes Persons (λ (one : PersonRow). is_whole_ask one.ask) (λ one h. h.1))
+      (passes Versions has_due_reason (λ one h. h.1)))
+      (passes Versions has_format (λ one h. h.2)))
+      (passes Choices (is_of_choice t) (λ one h. h))
 
   alike_whole : AreCounted t → AreCurrent t → is_said_alike t ≡ true
   alike_whole counters currents =
       and_from _ _ (and_from _ _ (test_from_all (has_counted t) t.labs counters)
       (test_from_all (is_current t) t.records currents))
-      (test_from_all (names_its_form t) t.records kept.records.2)
+      (passes Records (names_its_form t) (λ one h. h.1))
 
 pub well_kept : (t : Tables) → IsByRules t → AreAllKept t → AreWellKept t
 well_kept t rules kept = record {
@@ -269,8 +262,8 @@ well_kept t rules kept = record {
   numbered = numbers_whole t kept.rows;
   alike = alike_whole t kept.rows kept.counters kept.currents;
   columns = columns_whole t kept.rows;
-  persons = kept.rows.persons.2;
-  fields = kept.rows.fields.1;
-  signatures = kept.rows.signatures.2;
-  trail = kept.rows.trail.2;
+  persons = facts t kept.rows Persons IsPersonSpelled (λ one h. h.2);
+  fields = facts t kept.rows Fields IsFieldSpelled (λ one h. h);
+  signatures = facts t kept.rows Signatures IsSignatureSpelled (λ one h. h.1);
+  trail = facts t kept.rows Trail IsTrailSpelled (λ one h. h.1);
 }

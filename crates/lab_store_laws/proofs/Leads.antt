@@ -3,17 +3,35 @@ use Rattle.std.proofs.Common.{◌≡◌, ℤ, Bool, true, false, List, Option, S
 use Rattle.std.specs.Option.{option_map_or}
 use Rattle.sqlite_keyed.specs.Keyed.{get_by}
 use Rattle.sqlite_keyed.proofs.ListLemmas.{all_weaker}
-use Rattle.lab_store_tables.specs.Rows.{PersonRow, SessionRow, FormRow, FieldRow, ChoiceRow, RecordRow, VersionRow, EntryRow, SignatureRow, TrailRow, Tables, form_id, field_id, version_id}
-use Rattle.lab_store_tables.specs.WellKept.{lab_of_person, lab_of_form, lab_of_record, lab_of_version, is_same, is_of_lab, is_asked_within, is_session_within, is_record_within, is_version_within, is_entry_within, is_signature_within, is_told_within, names_its_form, is_of_choice}
-use Rattle.lab_store_laws.proofs.Kept.{PersonsKept, SessionsKept, ChoicesKept, RecordsKept, VersionsKept, EntriesKept, SignaturesKept, TrailKept}
+use Rattle.lab_store_tables.specs.Rows.{PersonRow, FormRow, FieldRow, RecordRow, VersionRow, Tables, person_id, form_id, field_id, record_id, version_id}
+use Rattle.lab_store_tables.specs.WellKept.{lab_of_person, lab_of_form, lab_of_record, lab_of_version, is_same, is_of_lab}
+use Rattle.lab_store_tables.specs.Family.{Name, Persons, Sessions, Forms, Fields, Choices, Records, Versions, Entries, Signatures, Trail, RowOf, rows, with_rows}
+use Rattle.lab_store_laws.proofs.Tables.{each}
+use Rattle.lab_store_laws.proofs.Kept.{IsRowKept, AreKept, AreRowsKept}
 
--- a person and a record belong to their laboratories, and each form, field and version is there as it was
-pub record StillLeads (old new : Tables) : Type 0 where
-  pub persons : (id lab : ℤ) → lab_of_person old id ≡ Some lab → lab_of_person new id ≡ Some lab
-  pub forms : (id : ℤ) (one : FormRow) → get_by form_id old.forms id ≡ Some one → get_by form_id new.forms id ≡ Some one
-  pub fields : (id : ℤ) (one : FieldRow) → get_by field_id old.fields id ≡ Some one → get_by field_id new.fields id ≡ Some one
-  pub records : (id lab : ℤ) → lab_of_record old id ≡ Some lab → lab_of_record new id ≡ Some lab
-  pub versions : (id : ℤ) (one : VersionRow) → get_by version_id old.versions id ≡ Some one → get_by version_id new.versions id ≡ Some one
+-- what stands under an id still does, or is still of its laboratory
+abbrev IsThere : {X : Type 0} → (X → ℤ) → List X → List X → Type 0
+IsThere {X} id old new = (at : ℤ) (one : X) → get_by id old at ≡ Some one → get_by id new at ≡ Some one
+
+abbrev IsOf : {X : Type 0} → (X → ℤ) → (X → ℤ) → List X → List X → Type 0
+IsOf id lab old new = (at its : ℤ) → option_map lab (get_by id old at) ≡ Some its → option_map lab (get_by id new at) ≡ Some its
+
+-- a person and a record belong to their laboratories, and each form, field and version is there as it was; nothing leads to the rows of other tables
+abbrev pub Leads : (k : Name) → List (RowOf k) → List (RowOf k) → Type 0
+Leads Persons old new = IsOf person_id (λ (one : PersonRow). one.lab) old new
+Leads Forms old new = IsThere form_id old new
+Leads Fields old new = IsThere field_id old new
+Leads Records old new = IsOf record_id (λ (one : RecordRow). one.lab) old new
+Leads Versions old new = IsThere version_id old new
+Leads _ old new = Unit {0}
+
+leads_same : (k : Name) (rows : List (RowOf k)) → Leads k rows rows
+leads_same Persons rows = λ at its h. h
+leads_same Forms rows = λ at one h. h
+leads_same Fields rows = λ at one h. h
+leads_same Records rows = λ at its h. h
+leads_same Versions rows = λ at one h. h
+leads_same _ rows = tt
 
 -- ---- what is read of a row that is found
 
@@ -38,11 +56,11 @@ same_still None other after another f g h = absurd cc
 same_still (Some lab) None after another f g h = absurd cc
 same_still (Some lab) (Some own) after another f g h = ap₂ is_same (f lab refl) (g own refl) ∙ h
 
--- ---- rows of each table
+-- ---- a row of each table, and all of its rows
 
-module _ (old new : Tables) (leads : StillLeads old new) where
+module _ (old new : Tables) (leads : (k : Name) → Leads k (rows k old) (rows k new)) where
   form_lab : (id lab : ℤ) → lab_of_form old id ≡ Some lab → lab_of_form new id ≡ Some lab
-  form_lab id lab h = shown_still form_id old.forms new.forms leads.forms (λ (one : FormRow). one.lab) id lab h
+  form_lab id lab h = shown_still form_id old.forms new.forms (leads Forms) (λ (one : FormRow). one.lab) id lab h
 
   pub version_lab : (id lab : ℤ) → lab_of_version old id ≡ Some lab → lab_of_version new id ≡ Some lab
   version_lab id lab its = go (get_by version_id old.versions id) refl its
@@ -50,80 +68,43 @@ module _ (old new : Tables) (leads : StillLeads old new) where
       go : (o : Option VersionRow) → get_by version_id old.versions id ≡ o → option_and_then (λ (one : VersionRow). lab_of_record old one.kept) o ≡ Some lab
           → lab_of_version new id ≡ Some lab
       go None e h = absurd cc
-      go (Some one) e h = ap (option_and_then (λ (x : VersionRow). lab_of_record new x.kept)) (leads.versions id one e) ∙ leads.records one.kept lab h
+      go (Some one) e h = ap (option_and_then (λ (x : VersionRow). lab_of_record new x.kept)) (leads Versions id one e) ∙ leads Records one.kept lab h
 
   of_lab : (lab : ℤ) (person : Option ℤ) → is_of_lab old lab person ≡ true → is_of_lab new lab person ≡ true
   of_lab lab None h = refl
-  of_lab lab (Some person) h = same_still (lab_of_person old person) (Some lab) (lab_of_person new person) (Some lab) (leads.persons person) (λ own e. e) h
+  of_lab lab (Some person) h = same_still (lab_of_person old person) (Some lab) (lab_of_person new person) (Some lab) (leads Persons person) (λ own e. e) h
 
-  pub persons_still : (rows : List PersonRow) → PersonsKept old rows → PersonsKept new rows
-  persons_still rows kept = (
-    all_weaker (λ (one : PersonRow). is_asked_within old one ≡ true) (λ (one : PersonRow). is_asked_within new one ≡ true)
-        (λ one h. of_lab one.lab one.ask.asker h) rows kept.0,
-    kept.1,
-    kept.2,
+  still : (k : Name) (one : RowOf k) → IsRowKept k old one → IsRowKept k new one
+  still Persons one h = (of_lab one.lab one.ask.asker h.0, h.1, h.2)
+  still Sessions one h = same_still (lab_of_person old one.person) (Some one.lab) (lab_of_person new one.person) (Some one.lab) (leads Persons one.person) (λ own e. e) h
+  still Choices one h = passed_still field_id old.fields new.fields (leads Fields) (λ (field : FieldRow). bytes_eq field.kind.word (codes "choice")) one.field h
+  still Records one h = (
+    same_still (lab_of_form old one.form) (Some one.lab) (lab_of_form new one.form) (Some one.lab) (form_lab one.form) (λ own e. e) h.0,
+    passed_still form_id old.forms new.forms (leads Forms) (λ (form : FormRow). bytes_eq form.code one.form_code) one.form h.1,
   )
+  still Versions one h = (
+    same_still (lab_of_person old one.opener) (lab_of_record old one.kept) (lab_of_person new one.opener) (lab_of_record new one.kept)
+        (leads Persons one.opener) (leads Records one.kept) h.0,
+    h.1,
+    h.2,
+  )
+  still Entries one h =
+      same_still (lab_of_person old one.person) (lab_of_version old one.version) (lab_of_person new one.person) (lab_of_version new one.version)
+      (leads Persons one.person) (version_lab one.version) h
+  still Signatures one h = (
+    same_still (lab_of_person old one.person) (lab_of_version old one.version) (lab_of_person new one.person) (lab_of_version new one.version)
+        (leads Persons one.person) (version_lab one.version) h.0,
+    h.1,
+  )
+  still Trail one h = (of_lab one.lab one.person h.0, h.1)
+  still _ one h = h
 
-  pub sessions_still : (rows : List SessionRow) → SessionsKept old rows → SessionsKept new rows
-  sessions_still rows kept = (
-    all_weaker (λ (one : SessionRow). is_session_within old one ≡ true) (λ (one : SessionRow). is_session_within new one ≡ true)
-        (λ one h. same_still (lab_of_person old one.person) (Some one.lab) (lab_of_person new one.person) (Some one.lab) (leads.persons one.person)
-        (λ own e. e) h) rows kept.0,
-    kept.1,
-  )
+  all_still : (k : Name) (rows : List (RowOf k)) → AreKept k old rows → AreKept k new rows
+  all_still k rows kept = (all_weaker (IsRowKept k old) (IsRowKept k new) (still k) rows kept.0, kept.1)
 
-  pub choices_still : (rows : List ChoiceRow) → ChoicesKept old rows → ChoicesKept new rows
-  choices_still rows kept = (
-    all_weaker (λ (one : ChoiceRow). is_of_choice old one ≡ true) (λ (one : ChoiceRow). is_of_choice new one ≡ true)
-        (λ one h. passed_still field_id old.fields new.fields leads.fields
-        (λ (field : FieldRow). bytes_eq field.kind.word (codes "choice")) one.field h) rows kept.0,
-    kept.1,
-  )
-
-  pub records_still : (rows : List RecordRow) → RecordsKept old rows → RecordsKept new rows
-  records_still rows kept = (
-    all_weaker (λ (one : RecordRow). is_record_within old one ≡ true) (λ (one : RecordRow). is_record_within new one ≡ true)
-        (λ one h. same_still (lab_of_form old one.form) (Some one.lab) (lab_of_form new one.form) (Some one.lab) (form_lab one.form)
-        (λ own e. e) h) rows kept.0,
-    kept.1,
-    all_weaker (λ (one : RecordRow). names_its_form old one ≡ true) (λ (one : RecordRow). names_its_form new one ≡ true)
-        (λ one h. passed_still form_id old.forms new.forms leads.forms (λ (form : FormRow). bytes_eq form.code one.form_code) one.form h) rows kept.2,
-  )
-
-  pub versions_still : (rows : List VersionRow) → VersionsKept old rows → VersionsKept new rows
-  versions_still rows kept = (
-    all_weaker (λ (one : VersionRow). is_version_within old one ≡ true) (λ (one : VersionRow). is_version_within new one ≡ true)
-        (λ one h. same_still (lab_of_person old one.opener) (lab_of_record old one.kept) (lab_of_person new one.opener) (lab_of_record new one.kept)
-        (leads.persons one.opener) (leads.records one.kept) h)
-        rows kept.0,
-    kept.1,
-    kept.2,
-    kept.3,
-  )
-
-  pub entries_still : (rows : List EntryRow) → EntriesKept old rows → EntriesKept new rows
-  entries_still rows kept = (
-    all_weaker (λ (one : EntryRow). is_entry_within old one ≡ true) (λ (one : EntryRow). is_entry_within new one ≡ true)
-        (λ one h. same_still (lab_of_person old one.person) (lab_of_version old one.version) (lab_of_person new one.person) (lab_of_version new one.version)
-        (leads.persons one.person) (version_lab one.version) h)
-        rows kept.0,
-    kept.1,
-  )
-
-  pub signatures_still : (rows : List SignatureRow) → SignaturesKept old rows → SignaturesKept new rows
-  signatures_still rows kept = (
-    all_weaker (λ (one : SignatureRow). is_signature_within old one ≡ true) (λ (one : SignatureRow). is_signature_within new one ≡ true)
-        (λ one h. same_still (lab_of_person old one.person) (lab_of_version old one.version) (lab_of_person new one.person) (lab_of_version new one.version)
-        (leads.persons one.person) (version_lab one.version) h)
-        rows kept.0,
-    kept.1,
-    kept.2,
-  )
-
-  pub trail_still : (rows : List TrailRow) → TrailKept old rows → TrailKept new rows
-  trail_still rows kept = (
-    all_weaker (λ (one : TrailRow). is_told_within old one ≡ true) (λ (one : TrailRow). is_told_within new one ≡ true)
-        (λ one h. of_lab one.lab one.person h) rows kept.0,
-    kept.1,
-    kept.2,
-  )
+-- one table has other rows, to which arrows still lead
+pub kept_with : (k : Name) (new : List (RowOf k)) (t : Tables) → Leads k (rows k t) new → AreKept k t new → AreRowsKept t → AreRowsKept (with_rows k new t)
+kept_with k new t leads own kept =
+    let all = each k new t (λ j xs. Leads j (rows j t) xs) leads (λ j _. leads_same j (rows j t)) in
+    let still = all_still t (with_rows k new t) all in
+    record { at = each k new t (λ j xs. AreKept j (with_rows k new t) xs) (still k new own) (λ j _. still j (rows j t) (kept.at j)) }

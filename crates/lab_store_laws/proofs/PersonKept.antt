@@ -7,14 +7,15 @@ use Rattle.lab_people_access.specs.declared.persons.Ask.{Ask}
 use Rattle.lab_records_kept.specs.declared.changes.Change.TheVariants.{PersonAdded, PersonSet}
 use Rattle.lab_store_tables.specs.Rows.{PersonRow, Tables, person_id}
 use Rattle.lab_store_tables.specs.Columns.{roles_sum, password_columns, ask_columns}
-use Rattle.lab_store_tables.specs.WellKept.{have_own_ids, is_of_lab, is_asked_within, is_whole_ask, IsPersonSpelled, AreWellKept}
+use Rattle.lab_store_tables.specs.WellKept.{have_own_ids, is_of_lab, is_whole_ask, AreWellKept}
+use Rattle.lab_store_tables.specs.Family.{Persons}
 use Rattle.lab_store_tables.specs.Changes.{IsFree, IsNamedIfAny, is_person, person_named, asker_of, person_row_of, put_person, set_person, AddsPerson, SetsPerson, Applies}
 use Rattle.lab_store_laws.proofs.ColumnsBack.{roles_back, password_back}
 use Rattle.lab_store_laws.specs.ByRules.{IsByRules}
-use Rattle.lab_store_laws.proofs.Kept.{AreAllKept, all_kept, well_kept}
+use Rattle.lab_store_laws.proofs.Kept.{IsRowKept, AreAllKept, all_kept, well_kept}
 use Rattle.lab_store_laws.proofs.Ids.{own_ids}
 use Rattle.lab_store_laws.proofs.Named.{the_row, named_if_any}
-use Rattle.lab_store_laws.proofs.Puts.{person_put}
+use Rattle.lab_store_laws.proofs.Puts.{put_kept}
 use Rattle.lab_store_laws.proofs.Sets.{person_set}
 
 -- ---- what is asked for: by somebody of the laboratory, with all its columns or none
@@ -34,18 +35,16 @@ module _ (t : Tables) (own : have_own_ids person_id t.persons ≡ true) (lab : �
   abbrev row : PersonRow
   row = person_row_of lab id asker person
 
-  row_within : is_asked_within t row ≡ true
-  row_within = asked_within t own lab asker person.ask named
-
-  row_whole : is_whole_ask row.ask ≡ true
-  row_whole = asked_whole t own lab asker person.ask named
-
-  row_spelled : IsPersonSpelled row
-  row_spelled = (ap roles_sum (roles_back person.roles), ap password_columns (password_back person.password))
+  row_kept : IsRowKept Persons t row
+  row_kept = (
+    asked_within t own lab asker person.ask named,
+    asked_whole t own lab asker person.ask named,
+    (ap roles_sum (roles_back person.roles), ap password_columns (password_back person.password)),
+  )
 
   person_more : IsFree person_id t.persons id → AreAllKept t → AreAllKept (put_person row t)
   person_more free kept = record {
-    rows = person_put t row free row_within row_whole row_spelled kept.rows;
+    rows = put_kept Persons t row free row_kept tt kept.rows;
     counters = kept.counters;
     currents = kept.currents;
   }
@@ -55,7 +54,7 @@ module _ (t : Tables) (own : have_own_ids person_id t.persons ≡ true) (lab : �
       let it = the_row person_id (is_person lab person.code) t.persons own id found in
       let beside = same_int it.0.lab lab (and_parts (int_eq it.0.lab lab) (bytes_eq it.0.code person.code) it.2).0 in
       record {
-        rows = person_set t own row it.0 it.3 it.4 beside row_within row_whole row_spelled kept.rows;
+        rows = person_set t own row it.0 it.3 it.4 beside row_kept kept.rows;
         counters = kept.counters;
         currents = kept.currents;
       }

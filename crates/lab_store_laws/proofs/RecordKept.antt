@@ -14,15 +14,16 @@ use Rattle.lab_store_tables.specs.Rows.{LabRow, RecordRow, VersionRow, Tables, r
 use Rattle.lab_store_tables.specs.Columns.{format_number}
 use Rattle.lab_store_tables.specs.Meaning.{meaning, record_in, by_record}
 use Rattle.lab_store_tables.specs.WellKept.{lab_of_person, lab_of_form, lab_of_record, is_current, has_due_reason, has_format, AreWellKept}
+use Rattle.lab_store_tables.specs.Family.{Records, Versions}
 use Rattle.lab_store_tables.specs.Changes.{IsFree, InTurn, person_named, form_named, record_row_of, put_record, AddsEntry, AddsSignature, version_row_of, put_version, AddsVersion, in_lab, Applies}
 use Rattle.lab_store_laws.proofs.LabLaws.{alike}
 use Rattle.lab_store_laws.specs.ByRules.{IsByRules}
-use Rattle.lab_store_laws.proofs.Kept.{version_beside, AreRowsKept, AreCounted, AreCurrent, AreAllKept, all_kept, well_kept}
+use Rattle.lab_store_laws.proofs.Kept.{is_beside, AreRowsKept, AreCounted, AreCurrent, AreAllKept, all_kept, well_kept}
 use Rattle.lab_store_laws.proofs.PutRows.{count_mine, count_other, new_found}
 use Rattle.lab_store_laws.proofs.FreeIds.{none_has, none_leads}
 use Rattle.lab_store_laws.proofs.Ids.{own_ids, versions_lead}
 use Rattle.lab_store_laws.proofs.Named.{turned, of_same, named_lab, form_lab, form_code}
-use Rattle.lab_store_laws.proofs.Puts.{record_put, version_put}
+use Rattle.lab_store_laws.proofs.Puts.{put_kept}
 use Rattle.lab_store_laws.proofs.Sets.{lab_set}
 use Rattle.lab_store_laws.proofs.Counters.{records_counted}
 use Rattle.lab_store_laws.proofs.Shown.{as_many, fits_here}
@@ -53,9 +54,10 @@ module _ (t : Tables) (well : AreWellKept t) (lab : ℤ) (kept : Record)
   record_rows : AreRowsKept with_record
   record_rows =
       lab_set (put_record new_record t) lab (λ (one : LabRow). record one { records = kept.number })
-      (record_put t new_record free
-      (of_same (lab_of_form t form) (Some lab) lab (form_lab t (own_ids t well.ids).forms lab kept.form.code kept.form.version form named) refl) next
-      (form_code t (own_ids t well.ids).forms lab kept.form.code kept.form.version form named) (all_kept t well).rows)
+      (put_kept Records t new_record free (
+        of_same (lab_of_form t form) (Some lab) lab (form_lab t (own_ids t well.ids).forms lab kept.form.code kept.form.version form named) refl,
+        form_code t (own_ids t well.ids).forms lab kept.form.code kept.form.version form named,
+      ) next (all_kept t well).rows)
 
   record_counts : AreCounted with_record
   record_counts = records_counted t new_record free next (all_kept t well).counters
@@ -80,7 +82,7 @@ module _ (t : Tables) (well : AreWellKept t) (lab : ℤ) (kept : Record)
     abbrev with_version : Tables
     with_version = put_version new_version with_record
 
-    first_number : version.origin.number ≡ length (filter (version_beside new_version) t.versions) + 1
+    first_number : version.origin.number ≡ length (filter (is_beside Versions new_version) t.versions) + 1
     first_number = number ∙ ap (λ list. length list + 1) (sym none_yet)
 
     first_reason : has_due_reason new_version ≡ true
@@ -91,9 +93,11 @@ module _ (t : Tables) (well : AreWellKept t) (lab : ℤ) (kept : Record)
 
     version_rows : AreRowsKept with_version
     version_rows =
-        version_put with_record new_version vacant
-        (of_same (lab_of_person t opener) (lab_of_record with_record id) lab
-        (named_lab t (own_ids t well.ids).persons lab version.opener opener opens) record_is_of) first_number first_reason first_format record_rows
+        put_kept Versions with_record new_version vacant (
+          of_same (lab_of_person t opener) (lab_of_record with_record id) lab (named_lab t (own_ids t well.ids).persons lab version.opener opener opens) record_is_of,
+          first_reason,
+          first_format,
+        ) first_number record_rows
 
     -- the record's own, which is its first, and those of others as before
     own_current : is_current with_version new_record ≡ true

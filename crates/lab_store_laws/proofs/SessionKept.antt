@@ -14,6 +14,7 @@ use Rattle.lab_records_kept.specs.Changes.{SameSession, ChangesFit}
 use Rattle.lab_store_tables.specs.Rows.{LabRow, SessionRow, Tables, person_id, session_id}
 use Rattle.lab_store_tables.specs.Meaning.{meaning, session_in, by_session, sessions_of}
 use Rattle.lab_store_tables.specs.WellKept.{have_own_ids, same_token, lab_of_person, is_session_within, AreWellKept}
+use Rattle.lab_store_tables.specs.Family.{Sessions}
 use Rattle.lab_store_tables.specs.Changes.{IsFree, person_named, is_session, session_row_of, in_lab, put_session, set_session, is_to_close, close_sessions, Applies}
 use Rattle.lab_store_laws.proofs.Bridges.{apart_from_test}
 use Rattle.lab_store_laws.proofs.LabLaws.{alike, text_is, same_id}
@@ -21,7 +22,7 @@ use Rattle.lab_store_laws.specs.ByRules.{IsByRules}
 use Rattle.lab_store_laws.proofs.Kept.{AreAllKept, all_kept, well_kept}
 use Rattle.lab_store_laws.proofs.Ids.{own_ids, own_keys}
 use Rattle.lab_store_laws.proofs.Named.{text_alike, same_key, the_row, of_same, named_lab}
-use Rattle.lab_store_laws.proofs.Puts.{session_put}
+use Rattle.lab_store_laws.proofs.Puts.{put_kept}
 use Rattle.lab_store_laws.proofs.Sets.{lab_set, with_sessions, sessions_set}
 use Rattle.lab_store_laws.proofs.Counters.{sessions_counted, sessions_set_counted}
 use Rattle.lab_store_laws.proofs.Shown.{as_many, IsShown, all_shown, session_is_found, matched, fits_here}
@@ -46,7 +47,7 @@ module _ (t : Tables) (own : have_own_ids person_id t.persons ≡ true) (lab : �
   session_more kept = record {
     rows =
         lab_set (put_session new_row t) lab (λ (one : LabRow). record one { sessions = session.number })
-        (session_put t new_row free new_within next_row kept.rows);
+        (put_kept Sessions t new_row free new_within next_row kept.rows);
     counters = sessions_counted t new_row free next_row kept.counters;
     currents = kept.currents;
   }
@@ -135,7 +136,7 @@ module _ (t : Tables) (well : AreWellKept t) (lab : ℤ) (session : Session) (ol
       (all_from (λ (one : SessionRow). ((set_row one).lab ≡ one.lab) × ((set_row one).number ≡ one.number)) t.sessions row_stays)
       (all_weaker (λ (one : SessionRow). is_session_within t one ≡ true) (λ (one : SessionRow). is_session_within t (set_row one) ≡ true)
       (λ one h. cond_both (int_eq one.id id) row one (λ (x : SessionRow). is_session_within t x ≡ true) (λ e. row_within)
-      (λ e. h)) t.sessions kept.rows.sessions.0) kept
+      (λ e. h)) t.sessions (kept.rows.at Sessions).0) kept
 
 pub session_set_keeps : {old new : Tables} {code : List ℕ} {session : Session} → AreWellKept old → IsByRules new
     → ChangesFit (meaning old code) (SessionSet session ∷ [])
@@ -170,7 +171,7 @@ module _ (t : Tables) (lab : ℤ) (person : List ℕ) (closing : Closing) where
   sessions_closed kept =
       sessions_kept t close_row (all_of (λ (one : SessionRow). ((close_row one).lab ≡ one.lab) × ((close_row one).number ≡ one.number)) closed_stays t.sessions)
       (all_weaker (λ (one : SessionRow). is_session_within t one ≡ true)
-      (λ (one : SessionRow). is_session_within t (close_row one) ≡ true) closed_within t.sessions kept.rows.sessions.0) kept
+      (λ (one : SessionRow). is_session_within t (close_row one) ≡ true) closed_within t.sessions (kept.rows.at Sessions).0) kept
 
 pub closing_keeps : {old new : Tables} {code person : List ℕ} {closing : Closing} → AreWellKept old → IsByRules new
     → Applies code (SessionsClosed person closing) old new → AreWellKept new

@@ -7,29 +7,21 @@ use Rattle.sqlite_keyed.specs.Keyed.{get_by}
 use Rattle.sqlite_keyed.proofs.ListLemmas.{all_of, all_weaker, all_map}
 use Rattle.sqlite_keyed.proofs.KeyedLemmas.{same_int}
 use Rattle.lab_store_tables.specs.Rows.{LabRow, PersonRow, SessionRow, RecordRow, Tables, person_id, record_id}
-use Rattle.lab_store_tables.specs.WellKept.{have_own_ids, lab_of_person, lab_of_record, is_asked_within, is_session_within, is_record_within, names_its_form, is_whole_ask, IsPersonSpelled}
+use Rattle.lab_store_tables.specs.WellKept.{have_own_ids, lab_of_person, lab_of_record, is_session_within, is_record_within, names_its_form}
+use Rattle.lab_store_tables.specs.Family.{Labs, Persons, Sessions, Records}
 use Rattle.lab_store_tables.specs.Changes.{in_lab, set_person, set_current}
 use Rattle.lab_store_laws.proofs.Bridges.{apart_from_test}
 use Rattle.lab_store_laws.proofs.LabLaws.{same_id}
-use Rattle.lab_store_laws.proofs.Kept.{AreRowsKept}
+use Rattle.lab_store_laws.proofs.Kept.{IsRowKept, AreRowsKept}
 use Rattle.lab_store_laws.proofs.SetRows.{numbered_set, found_set, set_passes}
-use Rattle.lab_store_laws.proofs.Leads.{StillLeads, persons_still, sessions_still, versions_still, entries_still, signatures_still, trail_still}
+use Rattle.lab_store_laws.proofs.Leads.{kept_with}
 
 -- ---- a laboratory's own row, to which no test of other rows leads
 
 pub lab_set : (t : Tables) (id : ℤ) (next : LabRow → LabRow) → AreRowsKept t → AreRowsKept (in_lab id next t)
-lab_set t id next kept = record {
-  persons = kept.persons;
-  sessions = kept.sessions;
-  forms = kept.forms;
-  fields = kept.fields;
-  choices = kept.choices;
-  records = kept.records;
-  versions = kept.versions;
-  entries = kept.entries;
-  signatures = kept.signatures;
-  trail = kept.trail;
-}
+lab_set t id next kept =
+    let labs = (in_lab id next t).labs in
+    kept_with Labs labs t tt (all_of (IsRowKept Labs t) (λ _. tt) labs, tt) kept
 
 -- ---- sessions
 
@@ -40,21 +32,11 @@ pub sessions_set : (t : Tables) (set : SessionRow → SessionRow)
     → AllByRecursion (λ (one : SessionRow). ((set one).lab ≡ one.lab) × ((set one).number ≡ one.number)) t.sessions
     → AllByRecursion (λ (one : SessionRow). is_session_within t (set one) ≡ true) t.sessions → AreRowsKept t
     → AreRowsKept (with_sessions (map set t.sessions) t)
-sessions_set t set stay within kept = record {
-  persons = kept.persons;
-  sessions = (
-    all_map (λ (one : SessionRow). is_session_within t one ≡ true) set t.sessions within,
-    numbered_set (λ (one : SessionRow). one.lab) (λ (one : SessionRow). one.number) set t.sessions stay kept.sessions.1,
-  );
-  forms = kept.forms;
-  fields = kept.fields;
-  choices = kept.choices;
-  records = kept.records;
-  versions = kept.versions;
-  entries = kept.entries;
-  signatures = kept.signatures;
-  trail = kept.trail;
-}
+sessions_set t set stay within kept =
+    kept_with Sessions (map set t.sessions) t tt (
+      all_map (λ (one : SessionRow). is_session_within t one ≡ true) set t.sessions within,
+      numbered_set (λ (one : SessionRow). one.lab) (λ (one : SessionRow). one.number) set t.sessions stay (kept.at Sessions).1,
+    ) kept
 
 -- ---- the current version of a record
 
@@ -81,38 +63,16 @@ module _ (t : Tables) (id : ℤ) (number : ℕ) where
       go None h = absurd cc
       go (Some one) h = ap Some (unread (λ (x : RecordRow). x.lab) (λ x. refl) one) ∙ h
 
-  current_leads : StillLeads t (set_current id number t)
-  current_leads = record {
-    persons = λ at lab its. its;
-    forms = λ at one found. found;
-    fields = λ at one found. found;
-    records = record_lab_still;
-    versions = λ at one found. found;
-  }
-
   pub current_set : AreRowsKept t → AreRowsKept (set_current id number t)
-  current_set kept = record {
-    persons = kept.persons;
-    sessions = kept.sessions;
-    forms = kept.forms;
-    fields = kept.fields;
-    choices = kept.choices;
-    records = (
-      all_map (λ (one : RecordRow). is_record_within t one ≡ true) current_row t.records
-          (all_weaker (λ (one : RecordRow). is_record_within t one ≡ true) (λ (one : RecordRow). is_record_within t (current_row one) ≡ true)
-          (λ one h. unread (is_record_within t) (λ x. refl) one ∙ h) t.records kept.records.0),
-      numbered_set (λ (one : RecordRow). one.lab) (λ (one : RecordRow). one.number) current_row t.records
-          (all_of (λ (one : RecordRow). ((current_row one).lab ≡ one.lab) × ((current_row one).number ≡ one.number))
-          (λ one. (unread (λ (x : RecordRow). x.lab) (λ x. refl) one, unread (λ (x : RecordRow). x.number) (λ x. refl) one)) t.records) kept.records.1,
-      all_map (λ (one : RecordRow). names_its_form t one ≡ true) current_row t.records
-          (all_weaker (λ (one : RecordRow). names_its_form t one ≡ true) (λ (one : RecordRow). names_its_form t (current_row one) ≡ true)
-          (λ one h. unread (names_its_form t) (λ x. refl) one ∙ h) t.records kept.records.2),
-    );
-    versions = versions_still t (set_current id number t) current_leads t.versions kept.versions;
-    entries = entries_still t (set_current id number t) current_leads t.entries kept.entries;
-    signatures = signatures_still t (set_current id number t) current_leads t.signatures kept.signatures;
-    trail = kept.trail;
-  }
+  current_set kept =
+      kept_with Records (map current_row t.records) t record_lab_still (
+        all_map (IsRowKept Records t) current_row t.records
+            (all_weaker (IsRowKept Records t) (λ (one : RecordRow). IsRowKept Records t (current_row one))
+            (λ one h. (unread (is_record_within t) (λ x. refl) one ∙ h.0, unread (names_its_form t) (λ x. refl) one ∙ h.1)) t.records (kept.at Records).0),
+        numbered_set (λ (one : RecordRow). one.lab) (λ (one : RecordRow). one.number) current_row t.records
+            (all_of (λ (one : RecordRow). ((current_row one).lab ≡ one.lab) × ((current_row one).number ≡ one.number))
+            (λ one. (unread (λ (x : RecordRow). x.lab) (λ x. refl) one, unread (λ (x : RecordRow). x.number) (λ x. refl) one)) t.records) (kept.at Records).1,
+      ) kept
 
 -- ---- a person, who stays in the laboratory
 
@@ -147,29 +107,7 @@ module _ (t : Tables) (own : have_own_ids person_id t.persons ≡ true) (row was
       go None e h = absurd cc
       go (Some one) e h = ap Some (lab_stays one (has_found (λ (x : PersonRow). int_eq (person_id x) at) t.persons one e).0) ∙ h
 
-  set_leads : StillLeads t (set_person row t)
-  set_leads = record {
-    persons = person_lab_still;
-    forms = λ at one found. found;
-    fields = λ at one found. found;
-    records = λ at lab its. its;
-    versions = λ at one found. found;
-  }
-
-  pub person_set : is_asked_within t row ≡ true → is_whole_ask row.ask ≡ true → IsPersonSpelled row → AreRowsKept t → AreRowsKept (set_person row t)
-  person_set within whole spelled kept = record {
-    persons = persons_still t (set_person row t) set_leads (set_person row t).persons (
-      set_passes (λ (one : PersonRow). is_asked_within t one ≡ true) (λ (one : PersonRow). int_eq one.id row.id) row within t.persons kept.persons.0,
-      set_passes (λ (one : PersonRow). is_whole_ask one.ask ≡ true) (λ (one : PersonRow). int_eq one.id row.id) row whole t.persons kept.persons.1,
-      set_passes IsPersonSpelled (λ (one : PersonRow). int_eq one.id row.id) row spelled t.persons kept.persons.2,
-    );
-    sessions = sessions_still t (set_person row t) set_leads t.sessions kept.sessions;
-    forms = kept.forms;
-    fields = kept.fields;
-    choices = kept.choices;
-    records = kept.records;
-    versions = versions_still t (set_person row t) set_leads t.versions kept.versions;
-    entries = entries_still t (set_person row t) set_leads t.entries kept.entries;
-    signatures = signatures_still t (set_person row t) set_leads t.signatures kept.signatures;
-    trail = trail_still t (set_person row t) set_leads t.trail kept.trail;
-  }
+  pub person_set : IsRowKept Persons t row → AreRowsKept t → AreRowsKept (set_person row t)
+  person_set own kept =
+      kept_with Persons (set_person row t).persons t person_lab_still
+      (set_passes (IsRowKept Persons t) (λ (one : PersonRow). int_eq one.id row.id) row own t.persons (kept.at Persons).0, tt) kept

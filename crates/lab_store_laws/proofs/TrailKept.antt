@@ -7,13 +7,14 @@ use Rattle.lab_records_kept.specs.Changes.{ChangesFit}
 use Rattle.lab_store_tables.specs.Rows.{LabRow, TrailRow, Tables, person_id}
 use Rattle.lab_store_tables.specs.Meaning.{meaning, told_in, by_trail}
 use Rattle.lab_store_tables.specs.WellKept.{have_own_ids, AreWellKept}
+use Rattle.lab_store_tables.specs.Family.{Trail}
 use Rattle.lab_store_tables.specs.Changes.{told_row_of, put_told, AddsTold, Applies}
 use Rattle.lab_store_laws.proofs.ColumnsBack.{action_back}
 use Rattle.lab_store_laws.specs.ByRules.{IsByRules}
 use Rattle.lab_store_laws.proofs.Kept.{AreAllKept, all_kept, well_kept}
 use Rattle.lab_store_laws.proofs.Ids.{own_ids}
 use Rattle.lab_store_laws.proofs.Named.{named_if_any}
-use Rattle.lab_store_laws.proofs.Puts.{told_put}
+use Rattle.lab_store_laws.proofs.Puts.{put_kept}
 use Rattle.lab_store_laws.proofs.Sets.{lab_set}
 use Rattle.lab_store_laws.proofs.Counters.{trail_counted}
 use Rattle.lab_store_laws.proofs.Shown.{as_many, fits_here}
@@ -26,7 +27,7 @@ module _ (t : Tables) (own : have_own_ids person_id t.persons ≡ true) (lab : �
       subst AreAllKept (sym it.made) (record {
         rows =
             lab_set (put_told row t) lab (λ (one : LabRow). record one { trail = told.number })
-            (told_put t row it.free (named_if_any t own lab told.person it.person it.named) next (ap action_word (action_back told.action)) kept.rows);
+            (put_kept Trail t row it.free (named_if_any t own lab told.person it.person it.named, ap action_word (action_back told.action)) next kept.rows);
         counters = trail_counted t row it.free next kept.counters;
         currents = kept.currents;
       })

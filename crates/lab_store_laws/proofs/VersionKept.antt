@@ -22,16 +22,17 @@ use Rattle.lab_store_tables.specs.Rows.{RecordRow, VersionRow, EntryRow, Tables,
 use Rattle.lab_store_tables.specs.Columns.{format_number}
 use Rattle.lab_store_tables.specs.Meaning.{Leaf, lab_in, meaning, leaf_in, by_version, leaves_of, version_after, chained, cover_in, record_in, by_record, records_of}
 use Rattle.lab_store_tables.specs.WellKept.{have_own_ids, lab_of_person, lab_of_record, lab_of_version, same_record, same_version, is_current, has_due_reason, has_format, AreWellKept}
+use Rattle.lab_store_tables.specs.Family.{Versions}
 use Rattle.lab_store_tables.specs.Changes.{IsFree, InTurn, person_named, record_named, entry_row_of, put_entry, AddsEntry, AddsSignature, version_row_of, put_version, set_current, Applies}
 use Rattle.lab_store_laws.proofs.Bridges.{apart_from_test}
 use Rattle.lab_store_laws.proofs.LabLaws.{alike}
 use Rattle.lab_store_laws.specs.ByRules.{IsByRules}
-use Rattle.lab_store_laws.proofs.Kept.{is_numbered, version_beside, version_number, AreRowsKept, AreCounted, AreCurrent, AreAllKept, rows_kept, all_kept, well_kept}
+use Rattle.lab_store_laws.proofs.Kept.{is_numbered, is_beside, number_of, AreRowsKept, AreCounted, AreCurrent, AreAllKept, rows_kept, all_kept, well_kept}
 use Rattle.lab_store_laws.proofs.PutRows.{within_to, new_found}
 use Rattle.lab_store_laws.proofs.NextNumber.{next_number}
 use Rattle.lab_store_laws.proofs.Ids.{own_ids, own_keys}
 use Rattle.lab_store_laws.proofs.Named.{same_key, of_same, named_lab, record_there, record_is_of, record_lab}
-use Rattle.lab_store_laws.proofs.Puts.{version_put}
+use Rattle.lab_store_laws.proofs.Puts.{put_kept}
 use Rattle.lab_store_laws.proofs.Sets.{current_set}
 use Rattle.lab_store_laws.proofs.Counters.{counter_follows, current_counted}
 use Rattle.lab_store_laws.proofs.Shown.{IsShown, all_shown, matched, fits_here}
@@ -119,14 +120,14 @@ amended : (amendment : Option Amendment) (digest : List ℕ) → option_map (λ 
 amended None digest h = absurd cc
 amended (Some one) digest h = refl
 
-versions_clash : (row one other : VersionRow) → version_beside row one ≡ true → version_beside row other ≡ true
-    → (version_number one == version_number other) ≡ true → same_version one other ≡ true
+versions_clash : (row one other : VersionRow) → is_beside Versions row one ≡ true → is_beside Versions row other ≡ true
+    → (one.number == other.number) ≡ true → same_version one other ≡ true
 versions_clash row one other own beside number =
     and_from (int_eq one.kept other.kept) (one.number == other.number)
     (alike one.kept other.kept (same_int one.kept row.kept own ∙ sym (same_int other.kept row.kept beside))) number
 
-versions_alike : (rows : List VersionRow) (row one : VersionRow) → version_beside row one ≡ true
-    → length (filter (version_beside one) rows) ≡ length (filter (version_beside row) rows)
+versions_alike : (rows : List VersionRow) (row one : VersionRow) → is_beside Versions row one ≡ true
+    → length (filter (is_beside Versions one) rows) ≡ length (filter (is_beside Versions row) rows)
 versions_alike rows row one own = ap (λ id. length (filter (λ (x : VersionRow). int_eq x.kept id) rows)) (same_int one.kept row.kept own)
 
 -- ---- the version's own row
@@ -142,22 +143,22 @@ module _ (t : Tables) (well : AreWellKept t) (lab : ℤ) (number : ℕ) (kept : 
   abbrev with_version : Tables
   with_version = put_version new_row t
 
-  last_within : (1 ≤ last) × (last ≤ length (filter (version_beside new_row) t.versions))
+  last_within : (1 ≤ last) × (last ≤ length (filter (is_beside Versions new_row) t.versions))
   last_within =
-      let within = within_to numbered.0.number (length (filter (version_beside numbered.0) t.versions))
-      (all_has (λ (one : VersionRow). is_numbered version_beside version_number t.versions one ≡ true) t.versions numbered.0
-      (rows_kept t well).versions.1 numbered.1) in
+      let within = within_to numbered.0.number (length (filter (is_beside Versions numbered.0) t.versions))
+      (all_has (λ (one : VersionRow). is_numbered (is_beside Versions) (number_of Versions) t.versions one ≡ true) t.versions numbered.0
+      ((rows_kept t well).at Versions).1 numbered.1) in
       let count = versions_alike t.versions new_row numbered.0 (alike numbered.0.kept kept.id numbered.2) in
       let same = numbered.3 in
       let least = within.0 in
       let most = within.1 in
       (omega (arith, least, same), omega (arith, most, same, count))
 
-  new_number : AreApart same_version (insert_by version_id t.versions new_row) → version.origin.number ≡ length (filter (version_beside new_row) t.versions) + 1
+  new_number : AreApart same_version (insert_by version_id t.versions new_row) → version.origin.number ≡ length (filter (is_beside Versions new_row) t.versions) + 1
   new_number apart =
       let least = last_within.0 in
       let most = last_within.1 in
-      next_number version_id version_beside same_version version_number t.versions new_row free (alike kept.id kept.id refl) (rows_kept t well).versions.1
+      next_number version_id (is_beside Versions) same_version (number_of Versions) t.versions new_row free (alike kept.id kept.id refl) ((rows_kept t well).at Versions).1
       (versions_alike t.versions new_row) apart
       (versions_clash new_row) (omega (arith, next, least)) (omega (arith, next, most))
 
@@ -174,17 +175,19 @@ module _ (t : Tables) (well : AreWellKept t) (lab : ℤ) (number : ℕ) (kept : 
   its_lab : lab_of_record t kept.id ≡ Some lab
   its_lab = record_lab t (own_ids t well.ids).records lab number kept named
 
-  new_rows : version.origin.number ≡ length (filter (version_beside new_row) t.versions) + 1 → AreRowsKept with_version
+  new_rows : version.origin.number ≡ length (filter (is_beside Versions new_row) t.versions) + 1 → AreRowsKept with_version
   new_rows counts =
-      version_put t new_row free
-      (of_same (lab_of_person t opener) (lab_of_record t kept.id) lab
-      (named_lab t (own_ids t well.ids).persons lab version.opener opener opens) its_lab) counts new_reason new_format (rows_kept t well)
+      put_kept Versions t new_row free (
+        of_same (lab_of_person t opener) (lab_of_record t kept.id) lab (named_lab t (own_ids t well.ids).persons lab version.opener opener opens) its_lab,
+        new_reason,
+        new_format,
+      ) counts (rows_kept t well)
 
   version_is_of : lab_of_version with_version id ≡ Some lab
   version_is_of = ap (option_and_then (λ (x : VersionRow). lab_of_record t x.kept)) (new_found version_id new_row t.versions free) ∙ its_lab
 
   -- the record's row, set, is current
-  current_follows : version.origin.number ≡ length (filter (version_beside new_row) t.versions) + 1 → (one : RecordRow) → is_current t one ≡ true
+  current_follows : version.origin.number ≡ length (filter (is_beside Versions new_row) t.versions) + 1 → (one : RecordRow) → is_current t one ≡ true
       → is_current with_version (cond (int_eq one.id kept.id) (record one { current = version.origin.number }) one) ≡ true
   current_follows counts one held = go (int_eq one.id kept.id) refl
     where
@@ -199,7 +202,7 @@ module _ (t : Tables) (well : AreWellKept t) (lab : ℤ) (number : ℕ) (kept : 
           and_from (nat_le 1 one.current) _ both.0 (counter_follows version_id
           (λ (x : VersionRow). x.kept) t.versions new_row free version.origin.number one.current counts one.id false e both.1)
 
-  new_current : version.origin.number ≡ length (filter (version_beside new_row) t.versions) + 1
+  new_current : version.origin.number ≡ length (filter (is_beside Versions new_row) t.versions) + 1
       → AreCurrent (set_current kept.id version.origin.number with_version)
   new_current counts =
       all_map (λ (one : RecordRow). is_current with_version one ≡ true)
@@ -212,7 +215,7 @@ module _ (t : Tables) (well : AreWellKept t) (lab : ℤ) (number : ℕ) (kept : 
   abbrev Beside : Tables → Type 0
   Beside u = AreCounted u × AreCurrent (set_current kept.id version.origin.number u)
 
-  new_state : version.origin.number ≡ length (filter (version_beside new_row) t.versions) + 1 → HasVersion lab id Beside with_version
+  new_state : version.origin.number ≡ length (filter (is_beside Versions new_row) t.versions) + 1 → HasVersion lab id Beside with_version
   new_state counts = record {
     persons = (own_ids t well.ids).persons;
     its = version_is_of;
