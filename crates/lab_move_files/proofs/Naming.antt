@@ -22,7 +22,6 @@ use Rattle.lab_store_tables.specs.Ready.{tables_of}
 use Rattle.lab_store_tables.specs.Family.{Desk}
 use Rattle.lab_store_laws.proofs.Tables.{held_if_stored, stored_with, rising_with}
 use Rattle.lab_store_write.specs.Calls.{Steps}
-use Rattle.lab_store_write.proofs.Columns.{stays}
 use Rattle.lab_store_write.proofs.Writes.{cast_int, cast_null, add_next}
 use Rattle.lab_store_write.proofs.Inside.{Wrote}
 use Rattle.lab_move_files.specs.Unfinished.{Finishes}
@@ -60,7 +59,7 @@ module _ (old new : State) (count : ℕ) (typed : IsTyped old.now) (did : Execut
   named : Wrote (put_naming (next_key desk_id t.desk) t) new.now
   named =
       let rows = insert_by desk_id t.desk row in
-      let it = add_next desk desk_id desk_row (λ _. (refl, refl)) (stays Desk) 0 refl (λ _. refl) naming_text naming_terms 3 naming_plain naming_is
+      let it = add_next desk desk_id desk_row (λ _. refl) 0 refl naming_text naming_terms 3 naming_plain naming_is
       [] naming_tail row old new count t.desk refl refl refl new_cast typed.schema (typed.stored.at Desk) (typed.rising.at Desk) did in
       record {
         held = held_if_stored new.now (put_naming (next_key desk_id t.desk) t) it.schema

@@ -24,7 +24,6 @@ use Rattle.lab_store_tables.specs.Family.{Labs}
 use Rattle.lab_store_laws.proofs.Tables.{held_if_stored, stored_with, rising_with}
 use Rattle.lab_store_write.specs.Calls.{Steps}
 use Rattle.lab_store_write.proofs.Writes.{cast_int, cast_null, add_next, next_id}
-use Rattle.lab_store_write.proofs.Columns.{stays}
 use Rattle.lab_store_write.proofs.Inside.{Wrote}
 use Rattle.lab_store_write_changes.specs.NewbornRows.{AddsLab}
 
@@ -58,7 +57,7 @@ new_cast lab = λ i.
 module _ (lab : Lab) (old new : State) (count : ℕ) (typed : IsTyped old.now) (did : Executes add_lab_text (lab_given lab) old new (Ok count)) where
   told_id : new.last_rowid ≡ next_key lab_id (tables_in old.now.trees).labs
   told_id =
-      next_id labs lab_id lab_row (λ _. (refl, refl)) (stays Labs) 1 refl (λ _. refl) add_lab_text lab_terms 9 add_lab_plain add_lab_is
+      next_id labs lab_id lab_row (λ _. refl) 1 refl add_lab_text lab_terms 9 add_lab_plain add_lab_is
       (lab_given lab) (lab_tail lab) old new count (tables_in old.now.trees).labs refl (new_cast lab) typed.schema (typed.stored.at Labs) did
 
   adds_lab : (id : ℤ) → id ≡ next_key lab_id (tables_in old.now.trees).labs → Wrote (put_lab (lab_row_of id lab) (tables_in old.now.trees)) new.now
@@ -66,7 +65,7 @@ module _ (lab : Lab) (old new : State) (count : ℕ) (typed : IsTyped old.now) (
       let t = tables_in old.now.trees in
       let row = lab_row_of id lab in
       let rows = insert_by lab_id t.labs row in
-      let it = add_next labs lab_id lab_row (λ _. (refl, refl)) (stays Labs) 1 refl (λ _. refl) add_lab_text lab_terms 9 add_lab_plain add_lab_is
+      let it = add_next labs lab_id lab_row (λ _. refl) 1 refl add_lab_text lab_terms 9 add_lab_plain add_lab_is
       (lab_given lab) (lab_tail lab) row old new count t.labs next refl refl (new_cast lab) typed.schema (typed.stored.at Labs) (typed.rising.at Labs) did in
       record {
         held = held_if_stored new.now (put_lab row t) it.schema
