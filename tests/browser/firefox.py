@@ -15,15 +15,15 @@ from room import PATIENCE, Stop, ends_with_this
 from screen import WATCH, WIDE, ZONE, Screen
 from selenium import webdriver
 from selenium.common.exceptions import WebDriverException
+from selenium.webdriver.common.keys import Keys
 from selenium.webdriver.common.options import ArgOptions
 from selenium.webdriver.remote.command import Command
 
 ELEMENT = "element-6066-11e4-a52e-4f735466cecf"
-# (a click is done within the page: it falls on what it is for, also where the page moves)
 SETTINGS = {"marionette.port": 0, "browser.shell.checkDefaultBrowser": False, "browser.startup.page": 0, "app.update.enabled": False,
             "datareporting.policy.dataSubmissionEnabled": False, "toolkit.telemetry.enabled": False, "network.captive-portal-service.enabled": False,
             "network.connectivity-service.enabled": False, "browser.aboutwelcome.enabled": False, "extensions.update.enabled": False,
-            "network.proxy.type": 0, "signon.rememberSignons": False, "dom.disable_beforeunload": True, "remote.events.async.enabled": False,
+            "network.proxy.type": 0, "signon.rememberSignons": False, "dom.disable_beforeunload": True,
             "browser.download.folderList": 2, "browser.download.alwaysOpenPanel": False}
 # What selenium calls a command, and what Marionette calls it. A name that differs between them stands behind it.
 COMMANDS = {
@@ -31,13 +31,29 @@ COMMANDS = {
     Command.SWITCH_TO_WINDOW: "SwitchToWindow", Command.W3C_GET_CURRENT_WINDOW_HANDLE: "GetWindowHandle",
     Command.W3C_GET_WINDOW_HANDLES: "GetWindowHandles", Command.W3C_GET_ACTIVE_ELEMENT: "GetActiveElement", Command.FIND_ELEMENT: "FindElement",
     Command.FIND_ELEMENTS: "FindElements", Command.FIND_CHILD_ELEMENT: "FindElement", Command.FIND_CHILD_ELEMENTS: "FindElements",
-    Command.CLICK_ELEMENT: "ElementClick", Command.CLEAR_ELEMENT: "ElementClear", Command.SEND_KEYS_TO_ELEMENT: "ElementSendKeys",
+    Command.CLEAR_ELEMENT: "ElementClear", Command.SEND_KEYS_TO_ELEMENT: "ElementSendKeys",
     Command.GET_ELEMENT_TEXT: "GetElementText", Command.GET_ELEMENT_TAG_NAME: "GetElementTagName", Command.IS_ELEMENT_SELECTED: "IsElementSelected",
     Command.IS_ELEMENT_ENABLED: "IsElementEnabled", Command.SET_TIMEOUTS: "SetTimeouts", Command.PRINT_PAGE: "Print",
 }
 CHILDREN = (Command.FIND_CHILD_ELEMENT, Command.FIND_CHILD_ELEMENTS)
 SCRIPTS = {Command.W3C_EXECUTE_SCRIPT: "function (...words) {{ return (function () {{ {} }}).apply(window, words); }}",
            Command.W3C_EXECUTE_SCRIPT_ASYNC: "function (...words) {{ return new Promise((done) => (function () {{ {} }}).apply(window, [...words, done])); }}"}
+# A click is for one element: one that falls elsewhere, as the page moved meanwhile, does nothing. Whether it fell there is noted.
+AIM = """function (one) {
+    window.aimed = one;
+    window.hit = one.tagName === "OPTION";
+    window.aiming ??= addEventListener("click", (event) => {
+        if (!window.aimed || !event.isTrusted) return;
+        window.hit = window.aimed.contains(event.target);
+        window.aimed = null;
+        if (window.hit) return;
+        event.preventDefault();
+        event.stopImmediatePropagation();
+    }, { capture: true }) ?? true;
+}"""
+HIT = "function () { window.aimed = null; return window.hit; }"
+CLICKS = 5
+HELD = (Keys.SHIFT, Keys.CONTROL, Keys.ALT, Keys.META)
 
 
 class Failed(Exception):
@@ -151,6 +167,17 @@ def heard(value):
     return value.get("value")
 
 
+def released(text):
+    """Keys, in which what releases all that is held down is each held key once more: Marionette knows no other release."""
+    typed, held = [], []
+    for one in text:
+        if one in HELD:
+            held = [other for other in held if other != one] if one in held else [*held, one]
+        typed += held if one == Keys.NULL else [one]
+        held = [] if one == Keys.NULL else held
+    return "".join(typed)
+
+
 class Connection:
     """What selenium sends its commands through."""
 
@@ -189,12 +216,25 @@ class Connection:
             return self.session
         if command == Command.QUIT:
             return self.end()
+        if command == Command.CLICK_ELEMENT:
+            return self.click(words)
+        if command == Command.SEND_KEYS_TO_ELEMENT:
+            words["text"] = released(words["text"])
         if command in CHILDREN:
             words["element"] = words.pop("id")
         given = self.marionette.ask(COMMANDS[command], words)
         if command == Command.SWITCH_TO_WINDOW:
             self.tab = words["handle"]
         return given
+
+    def click(self, words):
+        """Clicks, and again where the page moved just then."""
+        for _ in range(CLICKS):
+            self.bidi.call(self.tab, AIM, [{ELEMENT: words["id"]}])
+            self.marionette.ask("ElementClick", {"id": words["id"]})
+            if self.bidi.call(self.tab, HIT, []):
+                return
+        raise Failed("element click intercepted", f"{CLICKS} clicks fell elsewhere")
 
     def end(self):
         self.process.terminate()
