@@ -32,6 +32,7 @@ COMMANDS = {
     Command.W3C_GET_WINDOW_HANDLES: "GetWindowHandles", Command.W3C_GET_ACTIVE_ELEMENT: "GetActiveElement", Command.FIND_ELEMENT: "FindElement",
     Command.FIND_ELEMENTS: "FindElements", Command.FIND_CHILD_ELEMENT: "FindElement", Command.FIND_CHILD_ELEMENTS: "FindElements",
     Command.CLEAR_ELEMENT: "ElementClear", Command.SEND_KEYS_TO_ELEMENT: "ElementSendKeys",
+    Command.GET_ELEMENT_ATTRIBUTE: "GetElementAttribute", Command.GET_ELEMENT_PROPERTY: "GetElementProperty",
     Command.GET_ELEMENT_TEXT: "GetElementText", Command.GET_ELEMENT_TAG_NAME: "GetElementTagName", Command.IS_ELEMENT_SELECTED: "IsElementSelected",
     Command.IS_ELEMENT_ENABLED: "IsElementEnabled", Command.SET_TIMEOUTS: "SetTimeouts", Command.PRINT_PAGE: "Print",
 }
@@ -40,7 +41,7 @@ SCRIPTS = {Command.W3C_EXECUTE_SCRIPT: "function (...words) {{ return (function 
            Command.W3C_EXECUTE_SCRIPT_ASYNC: "function (...words) {{ return new Promise((done) => (function () {{ {} }}).apply(window, [...words, done])); }}"}
 # A click is for one element: one that falls elsewhere, as the page moved meanwhile, does nothing. Whether it fell there is noted.
 AIM = """function (one) {
-    window.aimed = one;
+    window.aimed = one.closest("select") ?? one;
     window.hit = one.tagName === "OPTION";
     window.aiming ??= addEventListener("click", (event) => {
         if (!window.aimed || !event.isTrusted) return;
