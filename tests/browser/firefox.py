@@ -39,20 +39,26 @@ COMMANDS = {
 CHILDREN = (Command.FIND_CHILD_ELEMENT, Command.FIND_CHILD_ELEMENTS)
 SCRIPTS = {Command.W3C_EXECUTE_SCRIPT: "function (...words) {{ return (function () {{ {} }}).apply(window, words); }}",
            Command.W3C_EXECUTE_SCRIPT_ASYNC: "function (...words) {{ return new Promise((done) => (function () {{ {} }}).apply(window, [...words, done])); }}"}
-# A click is for one element: one that falls elsewhere, as the page moved meanwhile, does nothing. Whether it fell there is noted.
+# A click is for one element, which is brought into the window first: one that falls elsewhere, as the page moved meanwhile, does
+# nothing. Whether it fell there is noted.
 AIM = """function (one) {
+    const { top, bottom } = one.getBoundingClientRect();
+    if (top < 0 || bottom > innerHeight) one.scrollIntoView({ block: "center" });
     window.aimed = one.closest("select") ?? one;
     window.hit = one.tagName === "OPTION";
+    window.fell = null;
     window.aiming ??= addEventListener("click", (event) => {
         if (!window.aimed || !event.isTrusted) return;
         window.hit = window.aimed.contains(event.target);
         window.aimed = null;
         if (window.hit) return;
+        window.fell = event.target.outerHTML?.slice(0, 90);
         event.preventDefault();
         event.stopImmediatePropagation();
     }, { capture: true }) ?? true;
 }"""
 HIT = "function () { window.aimed = null; return window.hit; }"
+FELL = "function () { return String(window.fell); }"
 CLICKS = 5
 HELD = (Keys.SHIFT, Keys.CONTROL, Keys.ALT, Keys.META)
 
@@ -235,7 +241,7 @@ class Connection:
             self.marionette.ask("ElementClick", {"id": words["id"]})
             if self.bidi.call(self.tab, HIT, []):
                 return
-        raise Failed("element click intercepted", f"{CLICKS} clicks fell elsewhere")
+        raise Failed("element click intercepted", f"{CLICKS} clicks fell elsewhere: {self.bidi.call(self.tab, FELL, [])}")
 
     def end(self):
         self.process.terminate()
