@@ -4,7 +4,6 @@ session). Both listen at ports of this machine."""
 import base64
 import json
 import os
-import pathlib
 import shutil
 import socket
 import struct
@@ -12,9 +11,8 @@ import subprocess
 import time
 
 from room import PATIENCE, Stop, ends_with_this
-from screen import WATCH, WIDE, ZONE, Screen
+from screen import WATCH, ZONE, Screen
 from selenium import webdriver
-from selenium.common.exceptions import WebDriverException
 from selenium.webdriver.common.keys import Keys
 from selenium.webdriver.common.options import ArgOptions
 from selenium.webdriver.remote.command import Command
@@ -25,7 +23,7 @@ SETTINGS = {"marionette.port": 0, "browser.shell.checkDefaultBrowser": False, "b
             "network.connectivity-service.enabled": False, "browser.aboutwelcome.enabled": False, "extensions.update.enabled": False,
             "network.proxy.type": 0, "signon.rememberSignons": False, "dom.disable_beforeunload": True,
             "browser.download.folderList": 2, "browser.download.alwaysOpenPanel": False}
-# What selenium calls a command, and what Marionette calls it. A name that differs between them stands behind it.
+# What selenium calls a command, and what Marionette calls it.
 COMMANDS = {
     Command.GET: "Navigate", Command.REFRESH: "Refresh", Command.CLOSE: "CloseWindow", Command.NEW_WINDOW: "NewWindow",
     Command.SWITCH_TO_WINDOW: "SwitchToWindow", Command.W3C_GET_CURRENT_WINDOW_HANDLE: "GetWindowHandle",
@@ -37,8 +35,11 @@ COMMANDS = {
     Command.IS_ELEMENT_ENABLED: "IsElementEnabled", Command.SET_TIMEOUTS: "SetTimeouts", Command.PRINT_PAGE: "Print",
 }
 CHILDREN = (Command.FIND_CHILD_ELEMENT, Command.FIND_CHILD_ELEMENTS)
-SCRIPTS = {Command.W3C_EXECUTE_SCRIPT: "function (...words) {{ return (function () {{ {} }}).apply(window, words); }}",
-           Command.W3C_EXECUTE_SCRIPT_ASYNC: "function (...words) {{ return new Promise((done) => (function () {{ {} }}).apply(window, [...words, done])); }}"}
+SCRIPTS = {
+    Command.W3C_EXECUTE_SCRIPT: "function (...words) {{ return (function () {{ {} }}).apply(window, words); }}",
+    Command.W3C_EXECUTE_SCRIPT_ASYNC:
+        "function (...words) {{ return new Promise((done) => (function () {{ {} }}).apply(window, [...words, done])); }}",
+}
 # A click is for one element, which is brought into the window first: one that falls elsewhere, as the page moved meanwhile, does
 # nothing. Whether it fell there is noted.
 AIM = """function (one) {
@@ -63,7 +64,7 @@ CLICKS = 5
 HELD = (Keys.SHIFT, Keys.CONTROL, Keys.ALT, Keys.META)
 
 
-class Failed(Exception):
+class Failed(Stop):
     """What was asked of the browser failed: the word of the fault, as WebDriver has it, and a text."""
 
 
@@ -192,12 +193,22 @@ class Connection:
         words = [shutil.which("firefox-esr"), "--marionette", "--remote-debugging-port", "0", "--headless", "--no-remote", "--profile", str(profile)]
         self.process = subprocess.Popen(words, stdout=subprocess.DEVNULL, stderr=subprocess.DEVNULL,
                                         env={**os.environ, "HOME": str(room), "TZ": ZONE}, preexec_fn=ends_with_this)
+        try:
+            self.begin(profile)
+        except BaseException:
+            self.end()
+            raise
+
+    def begin(self, profile):
+        """A session of Marionette, and the same one of BiDi."""
         self.marionette = Marionette(self.port(profile / "MarionetteActivePort"))
         wanted = {"webSocketUrl": True, "acceptInsecureCerts": True, "unhandledPromptBehavior": "ignore",
                   "timeouts": {"script": PATIENCE * 1000, "pageLoad": PATIENCE * 1000}}
         self.session = self.marionette.ask("NewSession", wanted)
         self.bidi = Bidi(self.session["capabilities"]["webSocketUrl"])
         self.tab = self.marionette.ask("GetWindowHandle", {})
+        self.bidi.ask("session.subscribe", events=["log.entryAdded"])
+        self.bidi.ask("script.addPreloadScript", functionDeclaration=f"() => {{ {WATCH} }}")
 
     def port(self, file):
         """Firefox writes down where it listens, once it does."""
@@ -265,13 +276,7 @@ class Firefox(Screen):
         settings = {**SETTINGS, "browser.download.dir": str(self.room / "downloads")}
         (profile / "user.js").write_text("".join(f"user_pref({json.dumps(name)}, {json.dumps(value)});\n" for name, value in settings.items()))
         self.connection = Connection(self.room, profile)
-        try:
-            self.connection.bidi.ask("session.subscribe", events=["log.entryAdded"])
-            self.connection.bidi.ask("script.addPreloadScript", functionDeclaration=f"() => {{ {WATCH} }}")
-            return webdriver.Remote(command_executor=self.connection, options=NoOptions())
-        except BaseException:
-            self.connection.end()
-            raise
+        return webdriver.Remote(command_executor=self.connection, options=NoOptions())
 
     def watch_tab(self):
         """(each tab is watched already)"""
