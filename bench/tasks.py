@@ -93,8 +93,12 @@ class Tasks:
         screen = self.screen
         self.of["dan"].post("records", form="ten", sample="Ten 1")
         self.go("#/records/1")
-        screen.one('[data-key="k0"] [name="value"]').click()
-        self.task("enter 10 results into an open record", lambda: [screen.press(f"{at}.25", screen.keys.ENTER) for at in range(10)])
+
+        def enter():
+            screen.one('[data-key="k0"] [name="value"]').click()
+            for at in range(10):
+                screen.press(f"{at}.25", screen.keys.ENTER)
+        self.task("enter 10 results into an open record", enter)
         screen.wait(lambda: len(self.of["eve"].get("records/1/versions/1")["rows"]) == 10, "all are entered")
         self.task("sign them as the author", lambda: self.sign("authorship", "dan"))
 

@@ -9,8 +9,10 @@ window.fetch = async (place, about) => {
     fault.times -= 1;
     if (fault.what === "too_often") return new Response("", { status: 429 });
     const reply = fault.what === "unsent" ? null : await real(place, about);
-    if (fault.what === "late") await new Promise((go_on) => { window.go_on = go_on; });
-    else throw new TypeError("Failed to fetch");
+    if (fault.what !== "late") throw new TypeError("Failed to fetch");
+    await new Promise((go_on) => { window.go_on = go_on; });
+    const text = reply.text.bind(reply);
+    reply.text = () => text().finally(() => setTimeout(() => { window.came = true; }));
     return reply;
 };
 """
@@ -31,6 +33,7 @@ def no_more_faults(screen):
 
 
 def come_late(screen):
-    """Lets the late reply come."""
+    """Lets the late reply come, and waits until the page has read it."""
     screen.wait(lambda: screen.run("return Boolean(window.go_on)"), "a reply is held")
-    screen.run("window.go_on(); window.go_on = null;")
+    screen.run("window.came = false; window.go_on(); window.go_on = null;")
+    screen.wait(lambda: screen.run("return window.came"), "the reply is read")

@@ -77,7 +77,8 @@ def sign_in(screen, code, password=None):
 # Of each text of the laboratory that has a character that isn't seen, or that turns the order: how many, and how many marks are seen.
 UNSEEN = """
 const hidden = /[\\u00ad\\u200b\\u200e\\u200f\\u202a-\\u202e\\u2066-\\u2069\\ufeff]/gu;
-const is_mark = (one) => /U\\+/.test(getComputedStyle(one, "::before").content) && one.getClientRects().length > 0;
+const before = (one) => getComputedStyle(one, "::before").content.replace("attr(data-code)", one.dataset.code ?? "");
+const is_mark = (one) => /U\\+/.test(before(one)) && one.getClientRects().length > 0;
 return [...document.querySelectorAll("bdi")].map((one) => [one, (one.textContent.match(hidden) ?? []).length])
     .filter(([one, count]) => count > 0 && one.checkVisibility())
     .map(([one, count]) => [count, [...one.querySelectorAll("*")].filter(is_mark).length]);

@@ -24,16 +24,16 @@ def found_calm(program, file):
 class Calm:
     """The laboratory, filled by the server itself; a session of each person there, and the screen."""
 
-    def __init__(self, screen, port):
-        self.screen, self.port = screen, port
+    def __init__(self, screen, port, people=PEOPLE, records=RECORDS):
+        self.screen, self.port, self.records = screen, port, records
         self.of = {code: Asker(port, LAB, code, password) for code, _, password in FOUNDERS}
-        for code, roles in PEOPLE:
+        for code, roles in people:
             let_in(self.of["ann"], self.of["bob"], code, f"{code.title()} Calm", roles)
             self.of[code] = Asker(port, LAB, code, password_of(code))
 
     def fill(self):
         self.of["gus"].post("forms", form="water", approval=False, fields=[LEAD, NOTE])
-        for number in range(1, RECORDS + 1):
+        for number in range(1, self.records + 1):
             self.of["dan"].post("records", form="water", sample=f"Well {number}")
         for record, code in ((1, "dan"), (2, "eve"), (3, "dan"), (4, "dan")):
             self.of[code].post("entries", record=record, key="lead", value="7.5", unit="mg/L")
@@ -114,7 +114,7 @@ def late_heading(calm):
     screen.click(screen.one('a[href="#/forms"]'))
     screen.settle()
     come_late(screen)
-    time.sleep(0.5)
+    screen.settle()
     same("a page that was left gives no title", screen.run("return document.title"), "Test forms · Koghdise")
 
 
@@ -128,7 +128,7 @@ def late_refusal(calm):
     screen.click(screen.one('a[href="#/forms"]'))
     screen.settle()
     come_late(screen)
-    time.sleep(0.5)
+    screen.wait(calm.said, "the line says something")
     there = screen.place(), "refused" in calm.said().lower()
     same(f"a late refusal is said on the page that is shown: {calm.said()!r}", there, ("#/forms", True))
 
@@ -232,10 +232,10 @@ def lost_writes_of_analyst(calm):
         screen.click(screen.one('[data-do="open_a_record"]'))
 
     def count_of_sample():
-        return sum(one["sample"] == "H3" for one in hal.get(f"records?from={RECORDS}&to={RECORDS + 50}")["records"])
+        return sum(one["sample"] == "H3" for one in hal.get(f"records?from={calm.records}&to={calm.records + 50}")["records"])
     calm.go("#/opening")
     lost_then_unsent(calm, "an opening", "/records", open_one, count_of_sample)
-    same("and leads to the record", screen.place(), f"#/records/{RECORDS + 1}")
+    same("and leads to the record", screen.place(), f"#/records/{calm.records + 1}")
 
     def sign():
         if screen.all('[name="code"]'):
@@ -318,11 +318,9 @@ def asks(calm, what, leave, lost):
     screen = calm.screen
     place, before = screen.place(), lost()
     leave()
-    time.sleep(0.3)
-    asked = bool(screen.all('dialog[open] [data-do="stay"]'))
-    if asked:
-        screen.click(screen.one('dialog[open] [data-do="stay"]'))
-    same(f"{what} asks first, and who stays has it", (asked, screen.place(), lost()), (True, place, before))
+    screen.click(screen.one('dialog[open] [data-do="stay"]'))
+    screen.wait(lambda: not screen.all("dialog[open]") and screen.place() == place, f"{what} leads back to {place} for who stays")
+    same(f"{what} asks first, and who stays has it", lost(), before)
 
 
 def value_of(calm, name):
@@ -491,6 +489,16 @@ def ending_in_sight(calm):
     screen.run("window.ahead = 0")
 
 
+BACK = "window.went = false; addEventListener('popstate', () => { window.went = true; }, { once: true }); history.back();"
+
+
+def go_back(screen):
+    """Back, to a place of these pages."""
+    screen.run(BACK)
+    screen.wait(lambda: screen.run("return window.went"), "Back is done")
+    screen.settle()
+
+
 def back_after_signing(calm):
     """Where nothing is to be signed there is no form, as after Back."""
     screen = calm.screen
@@ -503,9 +511,7 @@ def back_after_signing(calm):
     screen.do("sign_a_version")
     screen.wait(lambda: screen.place() == "#/records/15", "it is signed")
     screen.settle()
-    screen.run("history.back()")
-    time.sleep(0.5)
-    screen.settle()
+    go_back(screen)
     same("Back after a signature shows no form to sign", (len(screen.all('[name="password"]')), "authorship" in screen.place()), (0, False))
     calm.go("#/records/15/versions/1/authorship")
     same("and its address has none, either", screen.all('[name="password"]'), [])
@@ -519,9 +525,9 @@ def waiting_counts_all(calm):
     screen = calm.screen
     calm.go("#/day")
     there = screen.run(NUMBERS)
-    waits = [one["record"] for first in range(1, RECORDS + 1, 100) for one in calm.of["hal"].get(f"records?from={first}&to={first + 99}")["records"]
+    waits = [one["record"] for first in range(1, calm.records + 1, 100) for one in calm.of["hal"].get(f"records?from={first}&to={first + 99}")["records"]
              if one["state"] == "signed" and one["record"] != 2]
-    same(f"what waits among {RECORDS} records, the oldest first, without the own work", there, waits)
+    same(f"what waits among {calm.records} records, the oldest first, without the own work", there, waits)
     say("own work" in screen.part("counts") and "All" in screen.part("counts"), f"in words: {screen.part('counts')!r}")
 
 

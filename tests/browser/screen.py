@@ -4,6 +4,7 @@ import contextlib
 import json
 import os
 import pathlib
+import re
 import shutil
 import time
 
@@ -78,28 +79,39 @@ class Screen:
     def __init__(self, address, room):
         self.address, self.room = address, pathlib.Path(room)
         self.violations, self.faults = [], []
+        (self.room / "downloads").mkdir(exist_ok=True)
+        self.driver = self.start()
+        self.driver.set_script_timeout(PATIENCE)
+        self.driver.set_page_load_timeout(PATIENCE)
+        self.size(*WIDE)
+
+    def start(self):
         options = webdriver.ChromeOptions()
         options.binary_location = shutil.which("chromium")
         for setting in SETTINGS + (("--no-sandbox",) if os.getuid() == 0 else ()):
             options.add_argument(setting)
-        options.add_argument(f"--user-data-dir={room}/profile")
-        options.add_experimental_option("prefs", {"download.default_directory": f"{room}/downloads", "download.prompt_for_download": False,
+        options.add_argument(f"--user-data-dir={self.room}/profile")
+        options.add_experimental_option("prefs", {"download.default_directory": f"{self.room}/downloads", "download.prompt_for_download": False,
                                                   "profile.default_content_setting_values.automatic_downloads": 1,
                                                   "credentials_enable_service": False})
         options.set_capability("acceptInsecureCerts", True)
         options.set_capability("goog:loggingPrefs", {"browser": "ALL"})
-        (self.room / "downloads").mkdir(exist_ok=True)
-        self.driver = webdriver.Chrome(service=Service(shutil.which("chromedriver")), options=options)
-        self.driver.set_script_timeout(PATIENCE)
-        self.driver.set_page_load_timeout(PATIENCE)
-        self.driver.execute_cdp_cmd("Page.addScriptToEvaluateOnNewDocument", {"source": WATCH})
-        self.driver.execute_cdp_cmd("Emulation.setTimezoneOverride", {"timezoneId": ZONE})
-        self.size(*WIDE)
+        driver = webdriver.Chrome(service=Service(shutil.which("chromedriver")), options=options)
+        driver.execute_cdp_cmd("Emulation.setTimezoneOverride", {"timezoneId": ZONE})
+        driver.execute_cdp_cmd("Page.addScriptToEvaluateOnNewDocument", {"source": WATCH})
+        return driver
 
     def close(self):
         self.driver.quit()
 
     # ---- the window
+
+    def watch_tab(self):
+        """Of a further tab is noted what is noted of the first one."""
+        self.driver.execute_cdp_cmd("Page.addScriptToEvaluateOnNewDocument", {"source": WATCH})
+
+    def bring_to_front(self):
+        self.driver.execute_cdp_cmd("Page.bringToFront", {})
 
     def size(self, width, height):
         """A window of just this size, as on a telephone where it is narrow."""
@@ -127,12 +139,15 @@ class Screen:
         with contextlib.suppress(WebDriverException):
             self.violations += self.run("return (window.stopped_by_policy ?? []).splice(0)")
             self.violations += [f"ran: {text}" for text in self.run("return (window.hacked ?? []).splice(0)")]
-        for line in self.driver.get_log("browser"):
-            text = line["message"]
-            if "Content Security Policy" in text or "Trusted" in text:
+        for is_fault, text in self.console():
+            if re.search("Content.Security.Policy|Trusted", text):
                 self.violations.append(text)
-            elif line["level"] == "SEVERE" and "the server responded with a status of" not in text:
+            elif is_fault and "the server responded with a status of" not in text:
                 self.faults.append(text)
+
+    def console(self):
+        """The lines of the console since the last look: whether one is a fault, and its text."""
+        return [(line["level"] == "SEVERE", line["message"]) for line in self.driver.get_log("browser")]
 
     # ---- looking
 

@@ -4,7 +4,7 @@ import time
 from faults import break_fetch
 from losing import LAB, play
 from room import password_of, same, say
-from screen import PAUSE, WATCH, entry_row
+from screen import PAUSE, entry_row
 from working import COUNTED
 
 PATIENCE = 120
@@ -46,7 +46,7 @@ def wait(screen, condition, what):
 
 def show_tab(screen, tab):
     screen.driver.switch_to.window(tab)
-    screen.driver.execute_cdp_cmd("Page.bringToFront", {})
+    screen.bring_to_front()
 
 
 def another_tab(calm, place, lab=LAB):
@@ -54,7 +54,7 @@ def another_tab(calm, place, lab=LAB):
     screen = calm.screen
     first = screen.driver.current_window_handle
     screen.driver.switch_to.new_window("tab")
-    screen.driver.execute_cdp_cmd("Page.addScriptToEvaluateOnNewDocument", {"source": WATCH})
+    screen.watch_tab()
     screen.driver.get(f"{screen.address}{f'?lab={lab}' if lab else ''}{place}")
     screen.wait(lambda: screen.all("main h1"), "a page is there", PATIENCE)
     return first, screen.driver.current_window_handle
