@@ -46,7 +46,11 @@ move_begins old new count moves t held clean moved =
         found = moved.same;
         live = start.live;
         reached = start.ready;
-        safe = λ trees may. (s.now, start.ready.kept clean start.live, shown clean start.live trees may);
+        safe = λ trees may. (
+          s.now,
+          start.ready.kept clean start.live,
+          shown clean start.live trees may,
+        );
         alone = λ held left code. left.2 code
             ∙ ap (λ (trees : Trees). meaning (tables_in trees) code)
             (shown clean start.live left.0 left.1);
