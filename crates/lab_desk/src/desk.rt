@@ -90,12 +90,12 @@ impl<S: Keeper + Drop> Desk<S> {
     /// (`crash`), so that a client reads before it asks again. Every laboratory keeps what was.
     ///
     /// Each fact has a name, as a field of `Handles` (`specs/Handling.antt`): of a request that was
-    /// taken `taken` and `rows`, of one that was refused `refused` and `rows_refused`; of bytes that
-    /// ask nothing `untouched` and `nobodys`; of what a crash may leave `crash`, `quiet` and
+    /// taken `taken` and `rows`, of one that was refused `refused` and `rows_refused`; of bytes
+    /// that ask nothing `untouched` and `nobodys`; of what a crash may leave `crash`, `quiet` and
     /// `durable`; `stays` and `passes`, what stays true (`stays` has `within`, `releasing`,
-    /// `legible`, `keeps`, `reached`, `safe`, `left_within`, `left_releasing` and `again`: also after
-    /// a refusal a live keeper is live, or its store failed in this call); and `sound`: a copy that
-    /// was replied is sound.
+    /// `legible`, `keeps`, `reached`, `safe`, `left_within`, `left_releasing` and `again`: also
+    /// after a refusal a live keeper is live, or its store failed in this call); and `sound`: a
+    /// copy that was replied is sound.
     pub fn handle(&mut self, tick: &Tick, bytes: &[u8]) -> bool
         ensures { Handles S.Keeper self.old.keeper self.new.keeper (record {
           tick = tick.now;

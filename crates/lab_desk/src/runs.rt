@@ -28,16 +28,16 @@ impl<S: Keeper + Drop> Desk<S> {
     /// Handles events in order, writes each answer in turn, and tells for each event whether it was
     /// taken. An event is taken unless memory ran out or the store refused, which change nothing;
     /// but where a fault shut the store during a commit, that event may be found done once the
-    /// store is opened anew, as `crash` of [`Desk::handle`] says.
-    /// Each laboratory's answers, byte for byte, and what the keeper means by it in the end are
-    /// those of its own small machine, run over its own taken events alone; every event has one
-    /// answer, in order, and nothing else is written. The answers are so also where a fault shut
-    /// the store. Each laboratory keeps what was at each event, and has in the end all that was
-    /// recorded at the start: `stays` has `within`, `releasing`, `legible`, `retains`, `released`,
-    /// `reached`, `safe`, `left_within`, `left_releasing` and `again`. Where the keeper is live at the
-    /// end, or each event but the last was taken and the last one shut it, a crash then leaves what
-    /// every event that was taken made, and beside it at most one that the store refused: `leaves`,
-    /// and after a write fault `leaves_cut`.
+    /// store is opened anew, as `crash` of [`Desk::handle`] says. Each laboratory's answers, byte
+    /// for byte, and what the keeper means by it in the end are those of its own small machine, run
+    /// over its own taken events alone; every event has one answer, in order, and nothing else is
+    /// written. The answers are so also where a fault shut the store. Each laboratory keeps what
+    /// was at each event, and has in the end all that was recorded at the start: `stays` has
+    /// `within`, `releasing`, `legible`, `retains`, `released`, `reached`, `safe`, `left_within`,
+    /// `left_releasing` and `again`. Where the keeper is live at the end, or each event but the
+    /// last was taken and the last one shut it, a crash then leaves what every event that was taken
+    /// made, and beside it at most one that the store refused: `leaves`, and after a write fault
+    /// `leaves_cut`.
     ///
     /// # Errors
     /// That memory ran out for the list that is told, made first: nothing is handled or written. A

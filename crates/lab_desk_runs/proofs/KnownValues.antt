@@ -45,8 +45,9 @@ known_rest start tick = (refl, refl)
 
 -- ---- a stop by a fault
 
--- bytes that ask nothing were answered; and then a founding was refused, within whose commit a fault shut
--- the keeper: a crash leaves what was there, or with it the laboratory that was founded all the same
+-- bytes that ask nothing were answered; and then a founding was refused, within whose commit a
+-- fault shut the keeper: a crash leaves what was there, or with it the laboratory that was founded
+-- all the same
 abbrev last_events : Tick → RequestRefusal → List Happening
 last_events tick refusal =
     Request tick (Err refusal) ∷ Founding (codes "brick") tick [] ∷ []

@@ -37,7 +37,15 @@ left_so one stopped = elim stopped.left [
       is = record {
         handled = stopped.handled;
         told = stopped.told;
-        makes = inr (front.front, front.one, front.rest, front.are, front.refused, refl, front.since);
+        makes = inr (
+          front.front,
+          front.one,
+          front.rest,
+          front.are,
+          front.refused,
+          refl,
+          front.since,
+        );
       };
       same = front.made;
     }
@@ -128,7 +136,8 @@ alone_more first one others made there found is left code rest =
     is.alone code ∙ ap (λ (lab : Option Lab). alone_answers code lab (own_events code one.handled))
     (found code) in
     let brought : one.left code ≡ alone_after code (first code) (own_events code made) =
-    left code ∙ ap (λ (lab : Option Lab). alone_after code lab (own_events code made)) (found code) in
+    left code
+    ∙ ap (λ (lab : Option Lab). alone_after code lab (own_events code made)) (found code) in
     record {
       answers = ap (λ (told : List (List ℕ)). told ++ answers_at code others) here
           ∙ ap (λ (told : List (List ℕ)).

@@ -95,8 +95,8 @@ ReleasedFrom old new = new.is_live → EachFollows KeepsReleased old.meaning new
 
 -- ---- all that stays true
 
--- over one event; also of what a crash leaves, and that the keeper may be asked again: also after want
--- of memory or a refusal it is live, where it was, or its store failed in that call
+-- over one event; also of what a crash leaves, and that the keeper may be asked again: also after
+-- want of memory or a refusal it is live, where it was, or its store failed in that call
 pub record Stays (old new : World) : Type 0 where
   pub within : AreWithin old → AreWithin new
   pub releasing : AreReleasing old → AreReleasing new

@@ -47,7 +47,8 @@ left_by first (one ∷ others) = left_by one.left others
 -- ---- the events that made what was left
 
 -- those of a start that were handled; or a front of them, whose last event, though it was refused,
--- was made. Nothing that was taken after that front has changed any laboratory, so that none is lost
+-- was made. Nothing that was taken after that front has changed any laboratory, so that none is
+-- lost
 abbrev pub IsMade : Meaning → List Handled → List Handled → Type 0
 IsMade found handled made = (made ≡ handled)
     ⊎ ((front : List Handled) × (one : Handled) × (rest : List Handled)
@@ -95,8 +96,8 @@ machine_after code lab [] = lab
 machine_after code lab (here ∷ there) =
     machine_after code (alone_after code lab (own_events code here)) there
 
--- over these starts a laboratory was its own small machine alone: its answers, byte for byte, and what
--- it is at the end
+-- over these starts a laboratory was its own small machine alone: its answers, byte for byte, and
+-- what it is at the end
 pub record IsAloneAt (first : Meaning) (starts : List Start) (made : List (List Handled))
     (code : List ℕ) : Type 0 where
   pub answers : answers_at code starts ≡ machine_at code (first code) starts made

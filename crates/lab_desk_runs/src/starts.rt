@@ -12,10 +12,10 @@ ghost use Rattle.lab_desk_runs.specs.Starts.{AreMadeAt, AreMadeIn, AreStarts, Is
 /// run over its own events alone, as if there had been no stop. At each start it answers from where
 /// its events of all starts before have brought it (`answers`), and so it is left by the last stop
 /// (`rows`): its events are those that were taken and, at a stop, at most one that the store
-/// refused and whose commit was done all the same; what was taken after that one has changed nothing,
-/// so that no crash loses a taken event. `alone` says both of all starts at once. Signatures stay
-/// bound and under dual control (`releasing`), whatever a crash left. What each start answers and
-/// leaves is what `Desk::run` promises.
+/// refused and whose commit was done all the same; what was taken after that one has changed
+/// nothing, so that no crash loses a taken event. `alone` says both of all starts at once.
+/// Signatures stay bound and under dual control (`releasing`), whatever a crash left. What each
+/// start answers and leaves is what `Desk::run` promises.
 pub fn a_stop_and_a_start_go_on()
     ensures answers { (first : Meaning) (before : List Start) (one : Start) (after : List Start) →
         AreStarts first (before ++ one ∷ after) → (made : List Handled)

@@ -157,8 +157,10 @@ record IsNextFound {D : Type 0} {g : DiskOf D} (work next : Work D g) : Type 0 w
   ready : StandsReady next
 
 module _ {D : Type 0} {g : DiskOf D} (work next : Work D g) (ready : StandsReady work)
-    (run : IsTaskRun work) (reopens : Reopens work next) (clean : HasCleanDisk (file_state next.opened)) where
-  -- a crash at the stop leaves laboratories of which this holds, where it held of those that were found
+    (run : IsTaskRun work) (reopens : Reopens work next)
+    (clean : HasCleanDisk (file_state next.opened)) where
+  -- a crash at the stop leaves laboratories of which this holds, where it held of those that were
+  -- found
   only_within : LeavesOnly IsWithin (world_opened work)
   only_within held may =
       same_all IsWithin (world_opened work).meaning held (ready.alone held may) ready.within
@@ -261,7 +263,8 @@ end_here work left ready run may =
         tt,
       );
       ends = λ code. refl;
-      within = run.run.leaves.left_within tt (λ held was. same_all IsWithin (world_opened work).meaning held
+      within = run.run.leaves.left_within tt
+          (λ held was. same_all IsWithin (world_opened work).meaning held
           (ready.alone held was) ready.within) left may;
       releasing = run.run.leaves.left_releasing tt (λ live. ready.releasing)
           (λ held was. same_all IsReleasing (world_opened work).meaning held (ready.alone held was)
@@ -279,7 +282,8 @@ go_here work next others left ready run found rest =
       are = (one, rest.starts, refl, run.are, rest.are, refl);
       go = (
         λ code. refl,
-        answered_so over_files work.opened work.last run.handled run.run (world_opened next).meaning,
+        answered_so over_files work.opened work.last run.handled run.run
+            (world_opened next).meaning,
         stopped_so over_files work.opened work.last run.handled run.run (world_opened next).meaning
             ready.alone found.may,
         rest.go,
@@ -304,8 +308,10 @@ from_here work [] left ready done honest may =
     let run = work_run work done ready.live (λ live. ready.within) honest ready.reached in
     ∣ end_here work left ready run may ∣₁
 from_here work (next ∷ others) left ready done honest may =
-    let run = work_run work done.0 ready.live (λ live. ready.within) done.1.leaves.honest ready.reached in
-    ∥∥₁_elim (next_found work next ready run done.1 (opened_clean next others done.2 honest)) squash₁
+    let run = work_run work done.0 ready.live (λ live. ready.within) done.1.leaves.honest
+    ready.reached in
+    ∥∥₁_elim (next_found work next ready run done.1 (opened_clean next others done.2 honest))
+    squash₁
     (λ found. ∥∥₁_map (from_here next others left found.ready done.2 honest may)
     (λ rest. go_here work next others left ready run found rest))
 

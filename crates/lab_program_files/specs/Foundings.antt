@@ -52,9 +52,9 @@ pub record IsFoundedAt {S : Type 0} (keeper : Ghosts S) (old new : S) (code : Li
   pub lives : Lives (keeper.world old) (keeper.world new)
   pub stays : Stays (keeper.world old) (keeper.world new)
 
--- at a tick the founding of a laboratory from a body was refused, for this fault: every laboratory means
--- what it meant. A crash may leave what it could before, or, where its commit was begun, what that
--- makes; and all that stays true over an event stays so
+-- at a tick the founding of a laboratory from a body was refused, for this fault: every laboratory
+-- means what it meant. A crash may leave what it could before, or, where its commit was begun, what
+-- that makes; and all that stays true over an event stays so
 pub record IsRefusedAt {S : Type 0} (keeper : Ghosts S) (old new : S) (code : List ℕ) (tick : Tick)
     (body : Body) (fault : FoundFault) : Type 0 where
   pub fits : FoundFaultFits (keeper.world old).may_refuse

@@ -104,8 +104,8 @@ module _ {D : Type 0} {g : DiskOf D} where
 
   -- ---- from one opening to the next
 
-  -- a history begins with an opening that found these laboratories, each within its limits, bound and
-  -- under dual control, in well-kept tables, so that a crash at once leaves them alone
+  -- a history begins with an opening that found these laboratories, each within its limits, bound
+  -- and under dual control, in well-kept tables, so that a crash at once leaves them alone
   pub record Begins (first : Meaning) (work : Work D g) : Type 0 where
     pub found : SameMeaning first (world_opened work).meaning
     pub live : (world_opened work).is_live
@@ -117,8 +117,8 @@ module _ {D : Type 0} {g : DiskOf D} where
     pub releasing : OfAll IsReleasing first
 
   -- what a stop leaves to the next opening. `may` is the premise on the path and on the bytes that
-  -- are supposed to lie there: the file and its log hold some that a crash at the stop may have left,
-  -- which fails where another program wrote them, or the disk lost what it had synchronized.
+  -- are supposed to lie there: the file and its log hold some that a crash at the stop may have
+  -- left, which fails where another program wrote them, or the disk lost what it had synchronized.
   -- `connected` is true of each connection
   pub record Leaves (work : Work D g) (held : Image) : Type 0 where
     pub honest : HasCleanDisk (file_state work.last)
@@ -126,8 +126,8 @@ module _ {D : Type 0} {g : DiskOf D} where
         work.last.saved work.last.in_transaction
     pub may : (pages_of work.last.store).may_leave held
 
-  -- the next task opened it, by `open_file` or `make_file`; and the text of the schema that it found
-  -- is the schema's text, which fails where another program changed a table
+  -- the next task opened it, by `open_file` or `make_file`; and the text of the schema that it
+  -- found is the schema's text, which fails where another program changed a table
   pub record Reopens (work next : Work D g) : Type 0 where
     pub leaves : Leaves work next.held
     pub found : Held (FileStore D g)
@@ -146,8 +146,8 @@ module _ {D : Type 0} {g : DiskOf D} where
   last_of work [] = work
   last_of work (next ∷ others) = last_of next others
 
-  -- a task and those after it, over a file that had these laboratories at first; and these are such as
-  -- a crash at the last stop may leave
+  -- a task and those after it, over a file that had these laboratories at first; and these are such
+  -- as a crash at the last stop may leave
   pub record IsHistory (first : Meaning) (work : Work D g) (others : List (Work D g))
       (left : Meaning) : Type 0 where
     pub begins : Begins first work
@@ -164,11 +164,11 @@ module _ {D : Type 0} {g : DiskOf D} where
       × (one.found ≡ (world_opened work).meaning) × AreEventsOf work.task one.handled
       × AreStartsOf works others × (starts ≡ one ∷ others)
 
-  -- each laboratory goes on alone: its replies over the whole history, byte for byte, and its rows at
-  -- the end are those of its own small machine, which ran over its own events alone: those that were
-  -- taken, and for the rows, at a stop, at most one that the store refused and whose commit was done
-  -- all the same (`IsMadeIn`). It is within its limits; and each version that it released is signed by
-  -- two persons, or three, over the digest of exactly its text (`IsReleasing`)
+  -- each laboratory goes on alone: its replies over the whole history, byte for byte, and its rows
+  -- at the end are those of its own small machine, which ran over its own events alone: those that
+  -- were taken, and for the rows, at a stop, at most one that the store refused and whose commit
+  -- was done all the same (`IsMadeIn`). It is within its limits; and each version that it released
+  -- is signed by two persons, or three, over the digest of exactly its text (`IsReleasing`)
   pub record GoesOnAlone (first : Meaning) (works : List (Work D g)) (left : Meaning) : Type 0 where
     pub starts : List Start
     pub are : AreStartsOf works starts

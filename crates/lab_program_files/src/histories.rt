@@ -10,8 +10,8 @@ ghost use Rattle.lab_program_files.specs.Histories.{Begins, GoesOnAlone, IsDone,
 
 use sqlite_disk::Disk;
 
-/// Law: what each task does over a file is a run over that file, as one of `Desk::run`, whose events
-/// are the task's: a founding, taken or refused; the requests that were handled; none where
+/// Law: what each task does over a file is a run over that file, as one of `Desk::run`, whose
+/// events are the task's: a founding, taken or refused; the requests that were handled; none where
 /// laboratories were copied out, or moved in. It is so also where its last event met a fault that
 /// shut the file.
 pub fn what_a_task_does_is_a_run<D: Disk>()
@@ -33,9 +33,10 @@ pub fn a_history_begins<D: Disk>()
 /// events alone; each laboratory is within its limits; and each version that one has released is
 /// signed by two persons, or three, over the SHA-256 of exactly that version.
 ///
-/// The premises are those of [`IsHistory`]: the disk returns what was written, an opening finds what
-/// a crash at the stop before may have left (`may` of `Leaves`), and the tables have the schema's
-/// text there (`schema` of `Reopens`). The brackets ask for one way to see it, whichever it is.
+/// The premises are those of [`IsHistory`]: the disk returns what was written, an opening finds
+/// what a crash at the stop before may have left (`may` of `Leaves`), and the tables have the
+/// schema's text there (`schema` of `Reopens`). The brackets ask for one way to see it, whichever
+/// it is.
 pub fn an_installation_goes_on_alone<D: Disk>()
     ensures { (first : Meaning) (work : Work D D.Disk) (others : List (Work D D.Disk))
         (left : Meaning) → IsHistory first work others left →

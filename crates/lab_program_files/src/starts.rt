@@ -66,10 +66,11 @@ pub fn a_new_file_is_empty<S: Alter>()
         × ((code : List ℕ) → (world_of (state S.Store next)).meaning code ≡ None) }
 {}
 
-/// Law: what a server did over a file, from its opening until it was given up, is a run over that file, as one of
-/// `Desk::run`, also where its last request met a fault that shut the file; `IsTime` says of each time of a server what is
-/// asked here, and `found` that the connection of a start is live. So it is one of the starts of `goes_on`: each
-/// laboratory's replies and rows over services and stops are those of its own small machine.
+/// Law: what a server did over a file, from its opening until it was given up, is a run over that
+/// file, as one of `Desk::run`, also where its last request met a fault that shut the file;
+/// `IsTime` says of each time of a server what is asked here, and `found` that the connection of a
+/// start is live. So it is one of the starts of `goes_on`: each laboratory's replies and rows over
+/// services and stops are those of its own small machine.
 pub fn what_is_served_is_a_start<S: Alter>()
     ensures { (reply : List ℕ) (opened last : Held S) (visits : List Visit) →
         GivenWithin (file_world S.Store opened) (file_world S.Store last)

@@ -1,5 +1,5 @@
 -- What a move leaves to a history.
-use Rattle.std.proofs.Common.{◌≡◌, ℕ, List, None, Some, Option, Ok, Err, refl, ap, sym, subst}
+use Rattle.std.proofs.Common.{◌∙◌, ℕ, List, Ok, Err, refl, ap, subst}
 use Rattle.std.specs.Prelude.{OnOk, Result}
 use Rattle.sqlite_disk.specs.declared.Disk.{Ghosts as DiskOf}
 use Rattle.sqlite_trees.specs.Tree.{Trees}
@@ -18,7 +18,7 @@ use Rattle.lab_store_tables.specs.Ready.{IsAtRest, tables_of}
 use Rattle.lab_store_tables.specs.Rows.{Tables, tables_in}
 use Rattle.lab_move.specs.Moving.{IsMoved, IsStart}
 use Rattle.lab_program_shelves.specs.Files.{LeavesShown}
-use Rattle.lab_program_files.specs.Histories.{Begins, IsDone, Work}
+use Rattle.lab_program_files.specs.Histories.{Begins, IsDone}
 use Rattle.lab_program_moves.specs.Histories.{moved_in}
 use Rattle.lab_program_moves.specs.Moves.{Moves}
 
@@ -46,7 +46,11 @@ move_begins old new count moves t held clean moved =
         found = moved.same;
         live = start.live;
         reached = start.ready;
-        safe = λ trees may. (s.now, start.ready.kept clean start.live, shown clean start.live trees may);
+        safe = λ trees may. (
+          s.now,
+          start.ready.kept clean start.live,
+          shown clean start.live trees may,
+        );
         alone = λ held left code. left.2 code
             ∙ ap (λ (trees : Trees). meaning (tables_in trees) code)
             (shown clean start.live left.0 left.1);

@@ -1,4 +1,5 @@
-//! The task over two files: the laboratories of an old one come into a new one, whose history begins with them.
+//! The task over two files: the laboratories of an old one come into a new one, whose history
+//! begins with them.
 #![tactic(auto)]
 
 mod histories;

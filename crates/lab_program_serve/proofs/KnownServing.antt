@@ -41,14 +41,15 @@ pub known_counted : AreCounted {F = ServerFault} (Ok tt) 0 []
     × (AreCounted {F = ServerFault} (Ok tt) 1 [] → ⊥)
 known_counted = (refl, λ counted. true≢false (ap (λ (number : ℕ). number == 0) counted))
 
--- behind which replies a keeper is asked whether it answers
+-- after which replies a keeper is asked whether it answers
 pub known_unavailable : (is_unavailable (codes "HTTP/1.1 503 Service Unavailable\r\n") ≡ true)
     × (is_unavailable (codes "HTTP/1.1 200 OK\r\n") ≡ false) × (is_unavailable [] ≡ false)
 known_unavailable = (refl, refl, refl)
 
 -- ---- a service that a fault ended
 
--- one request, whose commit met a fault that shut the keeper: it was refused, and may be made all the same
+-- one request, whose commit met a fault that shut the keeper: it was refused, and may be made all
+-- the same
 abbrev request : Tick → Asked → Bool → Handled
 request tick asked taken = record {
   event = Request tick (Ok asked);

@@ -25,7 +25,7 @@ use Rattle.lab_program_serve.specs.Visits.{AreVisits, Ending, GoesOn, OnServed, 
 
 -- ---- replies for the store's sake
 
--- a reply that tells that memory ran out, or that the store refused, is one
+-- a reply for want of memory is one, and so is the store's refusal
 memory_unavailable : IsTrue (is_unavailable memory_text)
 unfolding memory_text message_text digits
 memory_unavailable = refl
@@ -72,7 +72,7 @@ module _ {S : Type 0} (keeper : Ghosts S) where
   abbrev IsLiveSince : S → S → Type 0
   IsLiveSince old now = (keeper.world old).is_live → (keeper.world now).is_live
 
-  -- or it lies behind a reply for the store's sake
+  -- or the last reply was one for the store's sake
   abbrev IsLiveOrAsked : S → S → List ℕ → Type 0
   IsLiveOrAsked old now reply =
       (keeper.world old).is_live → (keeper.world now).is_live ⊎ IsTrue (is_unavailable reply)
@@ -177,7 +177,7 @@ module _ {S : Type 0} (keeper : Ghosts S) where
         refusing = λ may. so.refusing (handles.passes.refusing may);
       }
 
-  -- which leaves a live keeper live, or a reply behind which it is asked
+  -- it leaves a live keeper live, or a reply after which the keeper is asked
   request_wakes : (start next : S) (exchange : Exchange) →
       (request : HandlesRequest keeper start next exchange) → (keeper.world next).is_honest →
       (keeper.world start).is_reached → AreWithin (keeper.world start) →

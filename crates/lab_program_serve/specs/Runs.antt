@@ -30,8 +30,8 @@ AreBrought (visit ∷ visits) handled = (here : List Handled) × (there : List H
     × Brings visit.exchange visit.ending here × AreBrought visits there
     × (handled ≡ here ++ there)
 
--- they are a run, and this a crash may leave at its end, where the keeper was live at its opening: each
--- request found it live, also the last one, which may have shut it
+-- they are a run, and this a crash may leave at its end, where the keeper was live at its opening:
+-- each request found it live, also the last one, which may have shut it
 pub record IsServedRun (old new : World) (visits : List Visit) : Type 0 where
   pub handled : List Handled
   pub are : AreBrought visits handled
