@@ -59,6 +59,14 @@ def look_at_headers(served):
     same("a page that the browser has isn't sent again", fetched(served.tls, "/pages/main.js", headers={"If-None-Match": headers["ETag"]})[0], 304)
 
 
+def look_at_one_connection(served):
+    """More requests than nginx takes of a connection, if nobody tells it how many, come by one: a browser may lose one where it ends."""
+    ran = subprocess.run(["curl", "-sk", "-o", "/dev/null", "-w", "%{num_connects} %{http_code}\n", f"https://127.0.0.1:{served.tls}/pages/none.js?[1-1100]"],
+                         capture_output=True, text=True, timeout=PATIENCE)
+    lines = [line.split() for line in ran.stdout.splitlines()]
+    same("connections of 1,100 requests, and their replies", (sum(int(one) for one, _ in lines), {code for _, code in lines}, len(lines)), (1, {"404"}, 1100))
+
+
 def look_at_files(served):
     """Each file of the pages comes as it is, with its type; together they are small, and none holds what it mustn't."""
     wrong, total = [], 0

@@ -16,7 +16,7 @@ from room import SAID, Refused, Stop, found, program_of, say, serving
 from screen import NARROW, WIDE, Screen, looked_over
 from seeking import look_at_seeking
 from selenium.common.exceptions import WebDriverException
-from serving_site import look_at_compression, look_at_files, look_at_headers, look_at_the_starter
+from serving_site import look_at_compression, look_at_files, look_at_headers, look_at_one_connection, look_at_the_starter
 from tabs import look_at_tabs
 from working import found_busy, look_at_working
 
@@ -111,7 +111,7 @@ def play_over(served, program, room, pictures):
         screen.load()
         day = Day(screen, served.port, Pictures(screen, pictures))
         parts = [("the checker", lambda: (look_at_altered(screen, program, room), look_at_mutated(screen, program, room))),
-                 ("the site", lambda: (look_at_headers(served), look_at_files(served), look_at_compression(served))),
+                 ("the site", lambda: (look_at_headers(served), look_at_one_connection(served), look_at_files(served), look_at_compression(served))),
                  ("the day", lambda: morning_to_evening(day, program, room)),
                  ("what is kept", lambda: day.nothing_is_kept(served.log())),
                  ("work that isn't lost", lambda: (look_at_calm(screen, served.port), looked_over(screen, "work that isn't lost"))),
