@@ -33,7 +33,7 @@ use Rattle.lab_desk_runs.proofs.Leaving.{same_then}
 use Rattle.lab_desk_runs.proofs.Starting.{starts_alone}
 use Rattle.lab_program_shelves.specs.Files.{AreHeldIn, IsFound, IsOpened, IsOursFrom, LeavesShown}
 use Rattle.lab_program_files.specs.FileWorlds.{file_world}
-use Rattle.lab_program_files.specs.Histories.{AreDone, AreEventsOf, AreStartsOf, Begins, Copied, Does, Founded, GoesOnAlone, IsDone, IsHistory, IsTaskRun, Moved, Refused, Reopens, Served, Task, Work, founding_refused, last_of, world_left, world_opened}
+use Rattle.lab_program_files.specs.Histories.{AreDone, AreEventsOf, AreStartsOf, Begins, Copied, Does, Founded, GoesOnAlone, IsDone, IsHistory, IsStartOf, IsTaskRun, Moved, Refused, Reopens, Served, Task, Work, founding_refused, last_of, world_left, world_opened}
 use Rattle.lab_program_files.specs.Starts.{IsRunOver, founding_answered, start_of}
 use Rattle.lab_program_files.proofs.StartLemmas.{answered_so, blank_refused, copied_over, found_blank, founded_over, moved_over, refused_over, served_over, stopped_so}
 
@@ -248,6 +248,16 @@ record FromHere {D : Type 0} {g : DiskOf D} (work : Work D g) (others : List (Wo
   within : OfAll IsWithin left
   releasing : OfAll IsReleasing left
 
+start_is : {D : Type 0} {g : DiskOf D} (work : Work D g) (left : Meaning)
+    (run : IsTaskRun work) →
+    IsStartOf work (start_of run.handled (world_opened work).meaning left)
+start_is work left run = record {
+  found = refl;
+  events = run.are;
+  told = record { events_are = refl; taken_are = refl };
+  each = run.run.run.each;
+}
+
 -- the last one
 end_here : {D : Type 0} {g : DiskOf D} (work : Work D g) (left : Meaning) → StandsReady work →
     IsTaskRun work → (world_left work).may_leave left → FromHere work [] left
@@ -255,7 +265,7 @@ end_here work left ready run may =
     let one = start_of run.handled (world_opened work).meaning left in
     record {
       starts = one ∷ [];
-      are = (one, [], refl, run.are, refl, refl);
+      are = (one, [], start_is work left run, refl, refl);
       go = (
         λ code. refl,
         answered_so over_files work.opened work.last run.handled run.run left,
@@ -279,7 +289,7 @@ go_here work next others left ready run found rest =
     let one = start_of run.handled (world_opened work).meaning (world_opened next).meaning in
     record {
       starts = one ∷ rest.starts;
-      are = (one, rest.starts, refl, run.are, rest.are, refl);
+      are = (one, rest.starts, start_is work (world_opened next).meaning run, rest.are, refl);
       go = (
         λ code. refl,
         answered_so over_files work.opened work.last run.handled run.run

@@ -2,7 +2,7 @@
 -- crash at the stop before it may have left; and what is true over all of it (21 CFR 11.10(a) and
 -- (c); ISO/IEC 17025:2017, 7.11.3(c), "be protected from unauthorized access", and (e), "system
 -- failures").
-use Rattle.std.specs.Prelude.{◌≡◌, ◌⊎◌, ℕ, List, [], ◌∷◌}
+use Rattle.std.specs.Prelude.{◌≡◌, ◌⊎◌, ℕ, List, [], ◌∷◌, All}
 use Rattle.sqlite_disk.specs.declared.Disk.{Ghosts as DiskOf}
 use Rattle.sqlite_wal.specs.Recovery.{Image}
 use Rattle.sqlite_store.specs.declared.store.FileStore.{FileStore}
@@ -21,7 +21,7 @@ use Rattle.lab_desk_foundings.specs.Faults.{found_fault_entry, is_taken}
 use Rattle.lab_desk_foundings.specs.Foundings.{founding_in, refused_line}
 use Rattle.lab_desk_runs.specs.Alone.{Founding}
 use Rattle.lab_desk_runs.specs.Keeping.{GivenWithin, OfAll}
-use Rattle.lab_desk_runs.specs.Runs.{Handled}
+use Rattle.lab_desk_runs.specs.Runs.{Handled, IsAnswer, IsTold}
 use Rattle.lab_desk_runs.specs.Starts.{AreMadeAt, Start, answers_at, machine_after, machine_at}
 use Rattle.lab_program_shelves.specs.Files.{AreHeldIn, Finds, IsNewFrom, IsOursFrom, LeavesShown}
 use Rattle.lab_program_serve.specs.Runs.{AreBrought}
@@ -157,12 +157,19 @@ module _ {D : Type 0} {g : DiskOf D} where
 
   -- ---- what is true of it
 
-  -- the starts of these tasks: what each found, and its events with what was answered to each
+  -- the start of a task: what it found, and its events, with what was answered to each. An event
+  -- counts as refused only if its answer is one of a refusal
+  pub record IsStartOf (work : Work D g) (one : Start) : Type 0 where
+    pub found : one.found ≡ (world_opened work).meaning
+    pub events : AreEventsOf work.task one.handled
+    pub told : IsTold one.events one.taken one.handled
+    pub each : All (IsAnswer (world_opened work).may_refuse) one.handled
+
+  -- the starts of these tasks, in order
   abbrev pub AreStartsOf : List (Work D g) → List Start → Type 0
   AreStartsOf [] starts = starts ≡ []
   AreStartsOf (work ∷ works) starts = (one : Start) × (others : List Start)
-      × (one.found ≡ (world_opened work).meaning) × AreEventsOf work.task one.handled
-      × AreStartsOf works others × (starts ≡ one ∷ others)
+      × IsStartOf work one × AreStartsOf works others × (starts ≡ one ∷ others)
 
   -- each laboratory goes on alone: its replies over the whole history, byte for byte, and its rows
   -- at the end are those of its own small machine, which ran over its own events alone: those that
