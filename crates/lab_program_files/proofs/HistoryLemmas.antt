@@ -8,9 +8,11 @@ use Rattle.sqlite_trees.specs.Tree.{Trees}
 use Rattle.sqlite_schema.specs.Names.{same_name}
 use Rattle.sqlite_schema.specs.declared.schema.Schema.{Schema}
 use Rattle.sqlite_store.specs.declared.store.FileStore.{FileStore}
+use Rattle.sqlite_store.specs.FileStore.{state as pages_of}
 use Rattle.sqlite.specs.Effect.{Database}
 use Rattle.sqlite.specs.Files.{file_state, over_files}
 use Rattle.sqlite.specs.Held.{Held}
+use Rattle.sqlite.specs.Start.{FindsIn}
 use Rattle.sqlite.specs.State.{HasCleanDisk, State}
 use Rattle.sqlite.proofs.Theorems.{next_run}
 use Rattle.lab_records_kept.specs.declared.labs.Lab.{Lab}
@@ -222,12 +224,25 @@ module _ {D : Type 0} {g : DiskOf D} (work next : Work D g) (ready : StandsReady
           };
         }
 
+  -- what was found is what a crash at the stop could leave, also where the connection was closed
+  left_to : (was : State) → FindsIn next.held was →
+      ∥ (file_state work.last).may_leave was.committed.trees ∥₁
+  left_to was found =
+      let leaves = reopens.leaves in
+      elim leaves.so [
+        | inl same ↦ next_run work.last.store (leaves.connected.numbered leaves.honest)
+            (leaves.connected.found leaves.honest) next.held
+            (subst (λ (it : FileStore D g). (pages_of it).may_leave next.held) same leaves.may) was
+            found
+        | inr shut ↦ ∥∥₁_map (next_run leaves.stopped shut.numbered (shut.is.sound shut.clean)
+            next.held leaves.may was found)
+            (λ left. shut.is.quiet.outcomes was.committed.trees left)
+      ]
+
   ours_found : IsOursFrom over_files reopens.found next.opened → ∥ IsNextFound work next ∥₁
   ours_found ours =
       let found = reopens.finds (ours.1 clean).0 in
-      let leaves = reopens.leaves in
-      ∥∥₁_map (next_run work.last.store (leaves.connected.numbered leaves.honest)
-      (leaves.connected.found leaves.honest) next.held leaves.may (file_state reopens.found)
+      ∥∥₁_map (left_to (file_state reopens.found)
       (record { holds = found.held.holds; reads = found.held.reads }))
       (λ left. is_found ours found left)
 
