@@ -28,13 +28,15 @@ pub fn a_history_begins<D: Disk>()
 {}
 
 /// Law: an installation goes on alone. Over every history of a file, of foundings, services, copies
-/// and a move, with a crash at any stop: each laboratory's replies, byte for byte, over the whole
-/// history, and its rows at the end, are those of its own small machine, run over its own taken
-/// events alone; each laboratory is within its limits; and each version that one has released is
-/// signed by two persons, or three, over the SHA-256 of exactly that version.
+/// and a move, each ended by a crash or by closing the file: each laboratory's replies to what was
+/// taken, byte for byte, over the whole history, and its rows at the end, are those of its own small
+/// machine, run over its own taken events alone; for what a stop leaves also over at most one event
+/// that the store refused there, and whose commit was done all the same. Each laboratory is within
+/// its limits; and each version that one has released is signed by two persons, or three, over the
+/// SHA-256 of exactly that version.
 ///
 /// The premises are those of [`IsHistory`]: the disk returns what was written, an opening finds
-/// what a crash at the stop before may have left (`may` of `Leaves`), and the tables have the
+/// what a crash at the stop before may have left, or after it (`may` of `Leaves`), and the tables have the
 /// schema's text there (`schema` of `Reopens`). The brackets ask for one way to see it, whichever
 /// it is.
 pub fn an_installation_goes_on_alone<D: Disk>()

@@ -34,16 +34,17 @@ moved_all : (Holds : Lab → Type 0) (old new : Tables) → SameMeaning (meaning
     WhereThere Holds (meaning old code)
 moved_all Holds old new same holds code = subst (WhereThere Holds) (same code) (holds code)
 
-pub move_begins : {D : Type 0} {g : DiskOf D} (old new : Held (FileStore D g)) (count : ℕ)
+begins_as : {D : Type 0} {g : DiskOf D} (old new : Held (FileStore D g)) (count : ℕ)
     (moves : Moves over_files old new (Ok count)) (t : Tables) (held : Image) →
-    HasCleanDisk (file_state moves.made) → IsMoved t (tables_of (file_state moves.made)) count →
+    HasCleanDisk (file_state moves.made) →
+    SameMeaning (meaning t) (meaning (tables_of (file_state moves.made))) →
     Begins (meaning t) (moved_in held moves.made) × IsDone (moved_in held moves.made)
-move_begins old new count moves t held clean moved =
+begins_as old new count moves t held clean same =
     let start = moves.ready clean in
     let shown = moves.shown clean in
     let s = file_state moves.made in (
       record {
-        found = moved.same;
+        found = same;
         live = start.live;
         reached = start.ready;
         safe = λ trees may. (
@@ -54,11 +55,26 @@ move_begins old new count moves t held clean moved =
         alone = λ held left code. left.2 code
             ∙ ap (λ (trees : Trees). meaning (tables_in trees) code)
             (shown clean start.live left.0 left.1);
-        within = moved_all IsWithin t (tables_of s) moved.same start.within;
-        releasing = moved_all IsReleasing t (tables_of s) moved.same start.releasing;
+        within = moved_all IsWithin t (tables_of s) same start.within;
+        releasing = moved_all IsReleasing t (tables_of s) same start.releasing;
       },
       record {
         does = λ within honest reached. (refl, shown);
         passes = record { honest = λ h. h; live = λ h l. l; refusing = λ m. m };
       },
     )
+
+pub move_begins_own : {D : Type 0} {g : DiskOf D} (old new : Held (FileStore D g)) (count : ℕ)
+    (moves : Moves over_files old new (Ok count)) (held : Image) →
+    HasCleanDisk (file_state moves.made) →
+    Begins (meaning (tables_of (file_state moves.made))) (moved_in held moves.made)
+    × IsDone (moved_in held moves.made)
+move_begins_own old new count moves held clean =
+    begins_as old new count moves (tables_of (file_state moves.made)) held clean (λ code. refl)
+
+pub move_begins : {D : Type 0} {g : DiskOf D} (old new : Held (FileStore D g)) (count : ℕ)
+    (moves : Moves over_files old new (Ok count)) (t : Tables) (held : Image) →
+    HasCleanDisk (file_state moves.made) → IsMoved t (tables_of (file_state moves.made)) count →
+    Begins (meaning t) (moved_in held moves.made) × IsDone (moved_in held moves.made)
+move_begins old new count moves t held clean moved =
+    begins_as old new count moves t held clean moved.same

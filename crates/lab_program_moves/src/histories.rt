@@ -18,12 +18,17 @@ ghost use Rattle.lab_program_moves.specs.Moves.{Moves};
 use sqlite_disk::Disk;
 
 /// Law: a move that was done begins a history, of which `an_installation_goes_on_alone`
-/// (`lab_program_files`) says the rest: it is the start whose laboratories are the old file's.
-/// Where `moved` of [`Moves`] says that these tables were moved, each laboratory of the new file is
-/// as they mean it, within its limits, bound and under dual control, and a crash at once leaves it
-/// so.
+/// (`lab_program_files`) says the rest: it is the start whose laboratories are those of the new
+/// file (`own`). Where `moved` of [`Moves`] says that these tables were moved, they are the old
+/// file's (`moved`): each laboratory of the new file is as these tables mean it. Each is within its
+/// limits, bound and under dual control, and a crash at once leaves it so.
 pub fn a_move_begins_a_history<D: Disk>()
-    ensures { (old new : Held (FileStore D D.Disk)) (count : ℕ)
+    ensures own { (old new : Held (FileStore D D.Disk)) (count : ℕ)
+        (moves : Moves over_files old new (Ok count)) (held : Image) →
+        HasCleanDisk (file_state moves.made) →
+        Begins (meaning (tables_of (file_state moves.made))) (moved_in held moves.made)
+        × IsDone (moved_in held moves.made) }
+    ensures moved { (old new : Held (FileStore D D.Disk)) (count : ℕ)
         (moves : Moves over_files old new (Ok count)) (t : Tables) (held : Image) →
         HasCleanDisk (file_state moves.made) →
         IsMoved t (tables_of (file_state moves.made)) count →

@@ -1,4 +1,4 @@
-//! A desk over a keeper that is opened anew once a fault has shut it.
+//! A desk over a keeper that is opened anew once it doesn't answer.
 
 ghost use Rattle.std.specs.Prelude.{◌≡◌, true, false, ℕ, List, [], Some, None, IfOk};
 ghost use Rattle.lab_program_serve.specs.Times.{IsMended, IsNext};
@@ -131,9 +131,10 @@ impl<S: Keeper + Drop, O: Drop> Office<S, O> {
         }
     }
 
-    /// Serves one connection. Before its request a keeper that a fault has shut, or that no longer
-    /// lies where it was opened, is opened anew; where that can't be, the request is refused as by
-    /// a keeper whose store refused, or for which there was no memory.
+    /// Serves one connection. Before its request a keeper that doesn't answer, since a fault has
+    /// shut it or it had no memory after a reply 503, or that no longer lies where it was opened,
+    /// is opened anew; where that can't be, the request is refused as by a keeper whose store
+    /// refused, or for which there was no memory.
     ///
     /// # Errors
     /// Those of serving a request, and that there was no memory for the buffer: nothing is changed.

@@ -5,7 +5,7 @@ ghost use Rattle.std.specs.Prelude.{IfOk};
 use lab_records_kept::KeeperFault;
 use std::alloc::Global;
 
-/// Who opens a keeper that lies somewhere, and opens it anew once a fault has shut it.
+/// Who opens a keeper that lies somewhere, and opens it anew once it doesn't answer.
 pub trait Opener<H, S> {
     /// What is known of a keeper that was opened.
     ghost opened: { S → Type 0 };
