@@ -38,7 +38,7 @@ long_last : (fields : List (List ℕ)) (field : List ℕ) → most_bytes < lengt
 long_last [] field long = inl long
 long_last (one ∷ fields) field long = inr (long_last fields field long)
 
--- of a row whose last field is at hand
+-- of a row whose last field is being read
 abbrev IsLongBy : List (List ℕ) → List ℕ → Type 0
 IsLongBy fields field = (most_fields ≤ length fields) ⊎ (HasLong fields ⊎ (most_bytes < length field))
 

@@ -24,12 +24,12 @@ use Rattle.lab_copy_rows.specs.declared.lines.VersionLine.{VersionLine}
 use Rattle.lab_copy.specs.Places.{count_of, counts_with}
 use Rattle.lab_copy_lines.specs.Fields.{HasReasonUnlessFirst}
 use Rattle.lab_copy_lines.specs.Lines.{IsReasoned}
-use Rattle.lab_copy.specs.Hands.{hand_of, amendment_by, amendment_behind, begun, with_entry, with_signature, has_numbers, flaw_of_hand}
+use Rattle.lab_copy.specs.Current.{hand_of, amendment_by, amendment_behind, begun, with_entry, with_signature, has_numbers, flaw_of_current}
 use Rattle.lab_copy_lines.specs.Kinds.{kind_of, may_come_after, is_end_kind}
 use Rattle.lab_copy.specs.Kept.{is_version_behind, has_kept_numbers, may_come, is_in_place_by, is_in_place_kept, flaw_of_signature_kept, flaw_of_version_kept, flaw_kept, hand_begun, copy_with, about_with, version_with, kept_with, verdict_kept, edition_by, first_copy, ends_in_version, hand_at, kept_none, kept_of, BeginsWithCopy, HasVersion, IsAt, IsKeepFault, IsTaken, MayBegin, MayRunOut, is_kept_made, is_text_made}
 use Rattle.lab_copy.specs.declared.faults.CheckFault.{CheckFault}
 use Rattle.lab_copy.specs.declared.faults.CheckFault.TheVariants.{Flawed, Read, Memory}
-use Rattle.lab_copy.specs.declared.hands.VersionAtHand.{VersionAtHand}
+use Rattle.lab_copy.specs.declared.current.CurrentVersion.{CurrentVersion}
 use Rattle.lab_copy.specs.declared.kept.Kept.{Kept}
 use Rattle.lab_copy_rows.proofs.ListLemmas.{some_same, never, no_some, last_push, last_cons, keep_push, skip_push, last_map, before_here, after_here, before_past, after_past}
 
@@ -136,16 +136,16 @@ told_parts lines told is =
     (sym (told_is lines) ∙ is) in
     record { about = parts.0; line = parts.1; previous = parts.2; entries = parts.3; signatures = parts.4 }
 
-abbrev hand_by : Bool → ℕ → Option Told → Option VersionAtHand
+abbrev hand_by : Bool → ℕ → Option Told → Option CurrentVersion
 hand_by ends before told = if ends then option_map (hand_of (before + 2)) told else None
 
--- the hand is that of the version told
+-- the current is that of the version told
 hand_is : (lines : List Line) (told : Told) → ends_in_version lines ≡ true → last_told lines ≡ Some told
     → hand_at lines ≡ Some (hand_of (length (before_last is_version lines) + 2) told)
 hand_is lines told ends is = λ i. hand_by (ends i) (length (before_last is_version lines)) (is i)
 
-no_hand : (lines : List Line) → ends_in_version lines ≡ false → hand_at lines ≡ None
-no_hand lines ends = λ i. hand_by (ends i) (length (before_last is_version lines)) (last_told lines)
+no_current : (lines : List Line) → ends_in_version lines ≡ false → hand_at lines ≡ None
+no_current lines ends = λ i. hand_by (ends i) (length (before_last is_version lines)) (last_told lines)
 
 -- ---- lines and one more
 
@@ -248,14 +248,14 @@ module _ (lines : List Line) (has : HasVersion lines) where
     next_told : (line : VersionLine)
         → is_version_behind (hand_at lines) (kept_of lines) line ≡ is_some_and (is_next_version line) (last_version lines)
     next_told line =
-        ap (λ hand. is_version_behind hand (kept_of lines) line) hand_told
+        ap (λ current. is_version_behind current (kept_of lines) line) hand_told
         ∙ sym (ap (is_some_and (is_next_version line)) line_told)
 
     signature_told : (line : SignatureLine)
         → flaw_of_signature_kept (length lines + 2) (hand_at lines) line ≡ flaw_of_signature lines line
     unfolding flaw_of_signature
     signature_told line =
-        ap (λ hand. flaw_of_signature_kept (length lines + 2) hand line) hand_told
+        ap (λ current. flaw_of_signature_kept (length lines + 2) current line) hand_told
         ∙ sym (ap (λ version.
         if not (is_some_and (λ (one : VersionLine). bytes_eq one.digest line.parts.version) version)
         then Some (flaw.Digest (length lines + 2))
@@ -282,7 +282,7 @@ module _ (lines : List Line) (has : HasVersion lines) where
       → is_version_behind (hand_at lines) (kept_of lines) line ≡ is_version_after lines line (last_of lines)
   version_numbers (Copy _) line is may = never may
   version_numbers (Record about) line is may =
-      ap (λ hand. is_version_behind hand (kept_of lines) line) (no_hand lines (version_ends lines (Record about) is))
+      ap (λ current. is_version_behind current (kept_of lines) line) (no_current lines (version_ends lines (Record about) is))
       ∙ ap (is_some_and (is_first_version line)) (last_map record_in lines (Record about) about is refl)
       ∙ sym (ap (is_version_after lines line) is)
   version_numbers (Version last) line is may = after_version (Version last) line is refl
@@ -396,7 +396,7 @@ follows_other lines line other place = follows_by lines line other (place_or lin
 -- ---- flaws
 
 hand_flaw : (ends : Bool) (row : ℕ) (told : Option Told)
-    → ((if ends then option_map (hand_of row) told else None) >>= flaw_of_hand)
+    → ((if ends then option_map (hand_of row) told else None) >>= flaw_of_current)
     ≡ (if ends then (told >>= flaw_of_version row) else None)
 hand_flaw true row None = refl
 hand_flaw true row (Some told) = refl
@@ -417,24 +417,24 @@ flaw_is lines (Signature line) has place =
     signature_told lines has (version_ends lines behind.last behind.last_is ∙ signature_behind behind.last line behind.may) line
 flaw_is lines (End line) has place = version_flaw lines
 
--- ---- the version at hand, one line later
+-- ---- the version being read, one line later
 
-amendment_same : (reason : Option (List ℕ)) (digest : List ℕ) (hand : Option VersionAtHand) (version : VersionLine) (line : Option VersionLine)
-    → option_map (λ (one : VersionAtHand). one.digest) hand ≡ Some digest → line ≡ Some version → version.digest ≡ digest
-    → amendment_by reason (option_map (λ (one : VersionAtHand). one.digest) hand) ≡ amendment_told reason line
-amendment_same None digest hand version line known is same = refl
-amendment_same (Some reason) digest hand version line known is same = rw (known, is, same) refl
+amendment_same : (reason : Option (List ℕ)) (digest : List ℕ) (current : Option CurrentVersion) (version : VersionLine) (line : Option VersionLine)
+    → option_map (λ (one : CurrentVersion). one.digest) current ≡ Some digest → line ≡ Some version → version.digest ≡ digest
+    → amendment_by reason (option_map (λ (one : CurrentVersion). one.digest) current) ≡ amendment_told reason line
+amendment_same None digest current version line known is same = refl
+amendment_same (Some reason) digest current version line known is same = rw (known, is, same) refl
 
 amendment_none : (reason : Option (List ℕ)) (number : ℕ) (digest : Option (List ℕ)) (line : Option VersionLine)
     → HasReasonUnlessFirst number reason → number ≡ first_number → amendment_by reason digest ≡ amendment_told reason line
 amendment_none None number digest line reasoned first = refl
 amendment_none (Some reason) number digest line reasoned first = absurd (reasoned first)
 
-begun_is : (row : ℕ) (about : RecordLine) (hand : Option VersionAtHand) (version : Option VersionLine) (line : VersionLine)
-    → amendment_behind hand line ≡ amendment_told line.reason version
-    → begun row about hand line
+begun_is : (row : ℕ) (about : RecordLine) (current : Option CurrentVersion) (version : Option VersionLine) (line : VersionLine)
+    → amendment_behind current line ≡ amendment_told line.reason version
+    → begun row about current line
     ≡ hand_of row (record { about = about; line = line; previous = version; entries = []; signatures = [] })
-begun_is row about hand version line same = λ i. record {
+begun_is row about current version line same = λ i. record {
   row = row;
   parts = record {
     format = line.format;
@@ -454,10 +454,10 @@ begun_is row about hand version line same = λ i. record {
   signers = [];
 }
 
-signed_hand : (row : ℕ) (told : Told) (line : SignatureLine)
+signed_current : (row : ℕ) (told : Told) (line : SignatureLine)
     → with_signature line.parts.person line.parts.meaning (hand_of row told)
     ≡ hand_of row (record told { signatures = told.signatures ++ (line ∷ []) })
-signed_hand row told line = λ i. record {
+signed_current row told line = λ i. record {
   row = row;
   parts = parts_told told;
   state = told.line.state;
@@ -473,7 +473,7 @@ hand_at_is lines line ends before told of here is =
     λ i. hand_by ((ends_push lines line ∙ of) i) (length (here i)) (is i)
 
 no_hand_at : (lines : List Line) (line : Line) → is_of_version line ≡ false → hand_at (lines ++ (line ∷ [])) ≡ None
-no_hand_at lines line other = no_hand (lines ++ (line ∷ [])) (ends_push lines line ∙ other)
+no_hand_at lines line other = no_current (lines ++ (line ∷ [])) (ends_push lines line ∙ other)
 
 first_of : (line : VersionLine) (about : RecordLine) → is_first_version line about ≡ true → line.number ≡ first_number
 first_of line about first =
@@ -483,18 +483,18 @@ first_of line about first =
 module _ (lines : List Line) (has : HasVersion lines) where
   -- a version row behind the row of its record, or behind the rows of the version before
   amendment_is : (line : VersionLine) → Follows lines (Version line) → HasReasonUnlessFirst line.number line.reason
-      → amendment_by line.reason (option_map (λ (hand : VersionAtHand). hand.digest) (hand_at lines)) ≡ amendment_told line.reason (last_version lines)
+      → amendment_by line.reason (option_map (λ (current : CurrentVersion). current.digest) (hand_at lines)) ≡ amendment_told line.reason (last_version lines)
   amendment_is line behind reasoned = by behind.last behind.last_is behind.may
     where
       later : (last : Line) → last_of lines ≡ Some last → is_of_version last ≡ true
-          → amendment_by line.reason (option_map (λ (hand : VersionAtHand). hand.digest) (hand_at lines)) ≡ amendment_told line.reason (last_version lines)
+          → amendment_by line.reason (option_map (λ (current : CurrentVersion). current.digest) (hand_at lines)) ≡ amendment_told line.reason (last_version lines)
       later last is of =
           let ends = version_ends lines last is ∙ of in
           amendment_same line.reason (told lines has ends).line.digest (hand_at lines) (told lines has ends).line (last_version lines)
-          (ap (option_map (λ (hand : VersionAtHand). hand.digest)) (hand_told lines has ends)) (line_told lines has ends) refl
+          (ap (option_map (λ (current : CurrentVersion). current.digest)) (hand_told lines has ends)) (line_told lines has ends) refl
 
       by : (last : Line) → last_of lines ≡ Some last → may_follow last (Version line) ≡ true
-          → amendment_by line.reason (option_map (λ (hand : VersionAtHand). hand.digest) (hand_at lines)) ≡ amendment_told line.reason (last_version lines)
+          → amendment_by line.reason (option_map (λ (current : CurrentVersion). current.digest) (hand_at lines)) ≡ amendment_told line.reason (last_version lines)
       by (Copy _) is may = never may
       by (Record about) is may =
           amendment_none line.reason line.number _ _ reasoned
@@ -532,7 +532,7 @@ module _ (lines : List Line) (has : HasVersion lines) where
   version_hand_next line behind reasoned =
       let about = about_there line behind in
       ap (option_map (λ one. begun (length lines + 2) one (hand_at lines) line)) about.1
-      ∙ ap (λ hand. Some hand) (begun_is (length lines + 2) about.0 (hand_at lines) (last_version lines) line (amendment_is line behind reasoned))
+      ∙ ap (λ current. Some current) (begun_is (length lines + 2) about.0 (hand_at lines) (last_version lines) line (amendment_is line behind reasoned))
       ∙ sym (hand_at_is lines (Version line) true lines _ refl (before_here is_version lines (Version line) refl) (version_told_next line behind))
 
   module _ (ends : ends_in_version lines ≡ true) where
@@ -560,7 +560,7 @@ module _ (lines : List Line) (has : HasVersion lines) where
         → option_map (with_signature line.parts.person line.parts.meaning) (hand_at lines) ≡ hand_at (lines ++ (Signature line ∷ []))
     signature_hand_next line =
         ap (option_map (with_signature line.parts.person line.parts.meaning)) (hand_told lines has ends)
-        ∙ ap (λ hand. Some hand) (signed_hand _ (told lines has ends) line)
+        ∙ ap (λ current. Some current) (signed_current _ (told lines has ends) line)
         ∙ sym (hand_at_is lines (Signature line) true _ _ refl (before_past is_version lines (Signature line) refl) (signature_told_next line))
 
 -- ---- what is kept, one line later
@@ -734,11 +734,11 @@ amends_by number None previous reasoned first = reasoned
 amends_by number (Some reason) None reasoned first = absurd (reasoned (first refl))
 amends_by number (Some reason) (Some previous) reasoned first = reasoned
 
-first_by : (copy : Option CopyLine) (version : Option VersionAtHand) (kept : Kept) (line : VersionLine)
+first_by : (copy : Option CopyLine) (version : Option CurrentVersion) (kept : Kept) (line : VersionLine)
     → kept.version ≡ version → is_in_place_by copy kept (Version line) ≡ true
-    → option_map (λ (hand : VersionAtHand). hand.digest) version ≡ None → line.number ≡ first_number
+    → option_map (λ (current : CurrentVersion). current.digest) version ≡ None → line.number ≡ first_number
 first_by None version kept line is place none = never place
-first_by (Some copy) (Some hand) kept line is place none = no_some hand.digest (sym none)
+first_by (Some copy) (Some current) kept line is place none = no_some current.digest (sym none)
 first_by (Some copy) None kept line is place none =
     let may : Bool = may_come kept.last (Version line) in
     let behind : Bool = is_version_behind kept.version kept line in
@@ -753,7 +753,7 @@ pub may_begin : (kept : Kept) (line : Line) → is_in_place_kept kept line ≡ t
 may_begin kept (Copy line) place reasoned = tt
 may_begin kept (Record line) place reasoned = tt
 may_begin kept (Version line) place reasoned =
-    amends_by line.number line.reason (option_map (λ (hand : VersionAtHand). hand.digest) kept.version) reasoned
+    amends_by line.number line.reason (option_map (λ (current : CurrentVersion). current.digest) kept.version) reasoned
     (first_by kept.copy kept.version kept line refl place)
 may_begin kept (Entry line) place reasoned = tt
 may_begin kept (Signature line) place reasoned = tt
@@ -768,16 +768,16 @@ taken row kept more lines line row_is is place reasoned none made = (
   subst (λ one. IsAt one (lines ++ (line ∷ []))) (sym made) (at_next row kept lines line row_is is place reasoned),
 )
 
--- a line whose version at hand has rows ends them
+-- a line whose version being read has rows ends them
 ends_by : (lines : List Line) (ends : Bool) → ends_in_version lines ≡ ends → is_some (hand_at lines) ≡ true → ends_in_version lines ≡ true
 ends_by lines true is some = is
-ends_by lines false is some = never (sym (ap is_some (no_hand lines is)) ∙ some)
+ends_by lines false is some = never (sym (ap is_some (no_current lines is)) ∙ some)
 
 hand_ends : (kept : Kept) (lines : List Line) → IsAt kept lines → is_some kept.version ≡ true → ends_in_version lines ≡ true
 hand_ends kept lines is some =
     ends_by lines (ends_in_version lines) refl (subst (λ (one : Kept). is_some one.version ≡ true) is.kept_is some)
 
--- memory ran out where the text of the version at hand was made
+-- memory ran out where the text of the version being read was made
 seeing : (kept : Kept) (lines : List Line) (line : Line) → IsAt kept lines → is_in_place lines line ≡ true
     → IsTrue (is_text_made kept line) → MayRunOut lines line
 seeing kept lines (Copy line) is place made = (place, hand_ends kept lines is made)

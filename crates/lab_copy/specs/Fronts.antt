@@ -19,7 +19,7 @@ abbrev pub most_bytes : ℕ
 most_bytes = 1000
 
 -- a row so far: where it stands by CSV's states, how many of its fields have ended, and how many
--- bytes the field at hand has. The mark is how much of a byte order mark the text is so far, and 3
+-- bytes the field being read has. The mark is how much of a byte order mark the text is so far, and 3
 -- where it is something else, or the mark is over
 pub record SoFar : Type 0 where
   pub mark : ℕ

@@ -19,8 +19,8 @@ use Rattle.lab_copy_rows.specs.declared.lines.RecordLine.{RecordLine}
 use Rattle.lab_copy_rows.specs.declared.lines.SignatureLine.{SignatureLine}
 use Rattle.lab_copy_rows.specs.declared.lines.VersionLine.{VersionLine}
 use Rattle.lab_copy.specs.Places.{count_of, counts_with, is_first_line}
-use Rattle.lab_copy.specs.Hands.{hand_of, amendment_behind, begun, with_entry, with_signature, has_numbers, is_next, flaw_of_hand}
-use Rattle.lab_copy.specs.declared.hands.VersionAtHand.{VersionAtHand}
+use Rattle.lab_copy.specs.Current.{hand_of, amendment_behind, begun, with_entry, with_signature, has_numbers, is_next, flaw_of_current}
+use Rattle.lab_copy.specs.declared.current.CurrentVersion.{CurrentVersion}
 use Rattle.lab_copy.specs.declared.faults.CheckFault.{CheckFault}
 use Rattle.lab_copy.specs.declared.faults.CheckFault.TheVariants.{Flawed, Read, Memory}
 use Rattle.lab_copy.specs.declared.kept.Kept.{Kept}
@@ -32,10 +32,10 @@ use Rattle.lab_copy_lines.specs.declared.kinds.Kind.{Kind}
 abbrev pub is_next_record : Kept → RecordLine → Bool
 is_next_record kept line = is_none_or (is_later_record line) kept.about
 
--- after a record row its first version, else the version after the one at hand
-abbrev pub is_version_behind : Option VersionAtHand → Kept → VersionLine → Bool
+-- after a record row its first version, else the version after the one being read
+abbrev pub is_version_behind : Option CurrentVersion → Kept → VersionLine → Bool
 is_version_behind None kept line = is_some_and (is_first_version line) kept.about
-is_version_behind (Some hand) kept line = is_next line hand
+is_version_behind (Some current) kept line = is_next line current
 
 abbrev pub has_kept_numbers : CopyLine → Kept → Line → Bool
 has_kept_numbers copy kept (Copy line) = false
@@ -60,15 +60,15 @@ abbrev pub is_in_place_kept : Kept → Line → Bool
 is_in_place_kept kept line = is_in_place_by kept.copy kept line
 
 -- what is wrong with a signature in a row
-abbrev pub flaw_of_signature_kept : ℕ → Option VersionAtHand → SignatureLine → Option Flaw
+abbrev pub flaw_of_signature_kept : ℕ → Option CurrentVersion → SignatureLine → Option Flaw
 flaw_of_signature_kept row version line =
-    if not (is_some_and (λ (hand : VersionAtHand). bytes_eq hand.digest line.parts.version) version)
+    if not (is_some_and (λ (current : CurrentVersion). bytes_eq current.digest line.parts.version) version)
     then Some (flaw.Digest row)
     else if not (bytes_eq (seal_of line.parts) line.seal) then Some (flaw.Seal row) else None
 
--- what is wrong with the version at hand
+-- what is wrong with the version being read
 abbrev pub flaw_of_version_kept : Kept → Option Flaw
-flaw_of_version_kept kept = kept.version >>= flaw_of_hand
+flaw_of_version_kept kept = kept.version >>= flaw_of_current
 
 -- what a line shows in a row where it is in its place
 abbrev pub flaw_kept : ℕ → Kept → Line → Option Flaw
@@ -78,11 +78,11 @@ flaw_kept row kept line = flaw_of_version_kept kept
 
 -- ---- what is kept after a line
 
-abbrev pub hand_begun : ℕ → Kept → VersionLine → Option VersionAtHand
+abbrev pub hand_begun : ℕ → Kept → VersionLine → Option CurrentVersion
 hand_begun row kept line = option_map (λ about. begun row about kept.version line) kept.about
 
--- a version that begins amends the one at hand, unless it is the first
-abbrev pub MayBegin : Option VersionAtHand → Line → Type 0
+-- a version that begins amends the one being read, unless it is the first
+abbrev pub MayBegin : Option CurrentVersion → Line → Type 0
 MayBegin version (Version line) = AmendsUnlessFirst line.number (amendment_behind version line)
 MayBegin version _ = Unit {0}
 
@@ -94,7 +94,7 @@ abbrev pub about_with : Line → Option RecordLine → Option RecordLine
 about_with (Record line) about = Some line
 about_with _ about = about
 
-abbrev pub version_by : ℕ → Option RecordLine → Option VersionAtHand → Line → Option VersionAtHand
+abbrev pub version_by : ℕ → Option RecordLine → Option CurrentVersion → Line → Option CurrentVersion
 version_by row about version (Version line) =
     option_map (λ about. begun row about version line) about
 version_by row about version (Entry line) = option_map (with_entry line.row) version
@@ -102,10 +102,10 @@ version_by row about version (Signature line) =
     option_map (with_signature line.parts.person line.parts.meaning) version
 version_by row about version _ = None
 
-abbrev pub version_with : ℕ → Kept → Line → Option VersionAtHand
+abbrev pub version_with : ℕ → Kept → Line → Option CurrentVersion
 version_with row kept line = version_by row kept.about kept.version line
 
--- the parts at hand with a line, but for the kind of the last line and the counts of lines
+-- the parts being read with a line, but for the kind of the last line and the counts of lines
 abbrev pub with_parts : ℕ → Kept → Line → Kept
 with_parts row kept line = record kept {
   copy = copy_with line kept.copy;
@@ -143,8 +143,8 @@ first_copy _ = None
 abbrev pub ends_in_version : List Line → Bool
 ends_in_version lines = is_some_and is_of_version (last_of lines)
 
--- the version at hand, where the last line is one of its rows
-abbrev pub hand_at : List Line → Option VersionAtHand
+-- the version being read, where the last line is one of its rows
+abbrev pub hand_at : List Line → Option CurrentVersion
 hand_at lines =
     if ends_in_version lines
     then option_map (hand_of (length (before_last is_version lines) + 2)) (last_told lines)
@@ -187,14 +187,14 @@ pub record IsAt (kept : Kept) (lines : List Line) : Type 0 where
 
 -- ---- what is made of a line, and so may run out of memory
 
--- to find what a line in its place shows: the text of the version at hand, whose rows have come
+-- to find what a line in its place shows: the text of the version being read, whose rows have come
 abbrev pub is_text_made : Kept → Line → Bool
 is_text_made kept (Entry line) = false
 is_text_made kept (Signature line) = false
 is_text_made kept line = is_some kept.version
 
--- to keep it: a version at hand, or a row or a signature more of one
-abbrev pub is_kept_made : Option RecordLine → Option VersionAtHand → Line → Bool
+-- to keep it: a version being read, or a row or a signature more of one
+abbrev pub is_kept_made : Option RecordLine → Option CurrentVersion → Line → Bool
 is_kept_made about version (Version line) = is_some about
 is_kept_made about version (Entry line) = is_some version
 is_kept_made about version (Signature line) = is_some version
@@ -226,7 +226,7 @@ IsTaken lines line kept (Err Read) = ⊥
 IsTaken lines line kept (Err (Memory _)) = MayRunOut lines line
 
 -- at the end of the input nothing is read, and memory runs out only where there is a version at
--- hand, whose text is made
+-- being read, whose text is made
 abbrev pub IsEndFault : Kept → CheckFault → Type 0
 IsEndFault kept (Flawed _) = Unit {0}
 IsEndFault kept Read = ⊥

@@ -1,7 +1,7 @@
 pub mod Checks
 pub mod Faults
 pub mod Fronts
-pub mod Hands
+pub mod Current
 pub mod Kept
 pub mod Left
 pub mod Places

@@ -6,7 +6,7 @@ ghost use Rattle.std.specs.Io.KnownBytes.{ReadConsumes};
 ghost use Rattle.lab_copy.specs.Fronts.{front, so_far};
 
 use crate::fronts::RowSoFar;
-use lab_forms_asks::ByteSource;
+use lab_forms_streams::ByteSource;
 use std::io;
 use std::io::{ErrorKind, Read};
 use std::marker::{Brand, PhantomData};

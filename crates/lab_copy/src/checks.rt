@@ -17,7 +17,7 @@ use crate::kept::Kept;
 use csv::{ByteRecord, ErrorKind, Reader, ReaderBuilder};
 use lab_copy_lines::{RowFault, is_header, read_line};
 use lab_copy_rows::{Counts, Flaw, OutOfMemory};
-use lab_forms_asks::ByteSource;
+use lab_forms_streams::ByteSource;
 use std::alloc::Global;
 use std::io::Read;
 use std::marker::{Brand, PhantomData};

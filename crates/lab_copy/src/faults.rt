@@ -11,7 +11,7 @@ use thiserror::Error;
 pub enum CheckFault {
     /// The copy has a flaw; this is the first one.
     Flawed(Flaw),
-    /// The reader failed, was asked more than 1,000,000,000,000,000 times, or its rows didn't end
+    /// The reader failed, was asked 1,000,000,000,000,000 times, or its rows didn't end
     /// within 1,000,000,000,000.
     Read,
     /// There was no memory for a version and its rows.

@@ -6,13 +6,13 @@ ghost use Rattle.lab_copy_rows.specs.Copies.{is_first_version, is_some_and};
 ghost use Rattle.lab_copy_rows.specs.declared.lines.Line.{Line};
 ghost use Rattle.lab_copy.specs.Faults.{IsAnswer};
 ghost use Rattle.lab_copy_lines.specs.Lines.{IsReasoned};
-ghost use Rattle.lab_copy.specs.Hands.{amendment_behind, begun, has_numbers, with_entry, with_signature};
+ghost use Rattle.lab_copy.specs.Current.{amendment_behind, begun, has_numbers, with_entry, with_signature};
 ghost use Rattle.lab_copy.specs.Kept.{IsAt, IsEndFault, IsKeepFault, IsTaken, MayBegin, edition_by, flaw_kept, flaw_of_signature_kept, flaw_of_version_kept, has_kept_numbers, is_in_place_kept, is_kept_made, is_next_record, is_text_made, is_version_behind, kept_none, kept_with, may_come, verdict_kept, with_parts};
-ghost use Rattle.lab_copy.specs.declared.hands.VersionAtHand.{VersionAtHand};
+ghost use Rattle.lab_copy.specs.declared.current.CurrentVersion.{CurrentVersion};
 ghost use Rattle.lab_copy_lines.specs.Kinds.{is_end_kind};
 
 use crate::{
-    CheckFault, VersionAtHand, are_same_counts, begin, counts_with, enter, is_first_line,
+    CheckFault, CurrentVersion, are_same_counts, begin, counts_with, enter, is_first_line,
     is_first_version, lab_of, sign, was_asked,
 };
 use lab_copy_lines::Kind;
@@ -28,7 +28,7 @@ use std::alloc::Global;
 pub struct Kept {
     copy: Option<CopyLine>,
     about: Option<RecordLine>,
-    version: Option<VersionAtHand>,
+    version: Option<CurrentVersion>,
     last: Option<Kind>,
     counts: Counts,
 }
@@ -240,7 +240,7 @@ impl Kept {
 
     // Whether the digest is that in the row of the current version.
     fn has_digest(&self, digest: &Digest) -> bool
-        ensures { result ≡ is_some_and (λ (hand : VersionAtHand). bytes_eq hand.digest digest.now)
+        ensures { result ≡ is_some_and (λ (current : CurrentVersion). bytes_eq current.digest digest.now)
             self.now.version }
     {
         match &self.version {

@@ -4,15 +4,15 @@
 
 mod asks;
 mod checks;
+mod current;
 mod faults;
 mod fronts;
-mod hands;
 mod kept;
 mod places;
 
 pub use checks::check_copy;
+pub use current::{CurrentVersion, begin, enter, sign};
 pub use faults::CheckFault;
-pub use hands::{VersionAtHand, begin, enter, sign};
 pub use lab_copy_rows::{
     CopyLine, CopyOut, CopyOutFault, CopyRow, Counts, Digest, Edition, EndLine, EntryLine,
     EntryRow, Flaw, Format, Key, LabCode, Line, Meaning, Moment, Name, Note, Ordinal, OutOfMemory,

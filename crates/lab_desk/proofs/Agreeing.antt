@@ -6,12 +6,12 @@ use Rattle.std.proofs.lemmas.Bool.{false≢true}
 use Rattle.std.proofs.lemmas.Slice.Eq.{bytes_eq-Decides}
 use Rattle.lab_forms_texts.specs.declared.tick.Tick.{Tick}
 use Rattle.lab_records_kept.specs.declared.labs.Lab.{Lab}
-use Rattle.lab_records_kept.specs.Worlds.{World, Meaning}
+use Rattle.lab_records_keeper.specs.Worlds.{World, Meaning}
 use Rattle.lab_records_machine.specs.Machine.{step}
 use Rattle.lab_wire.specs.declared.commands.Asked.{Asked}
 use Rattle.lab_wire.specs.declared.replies.Answer.TheVariants.{Replied}
 use Rattle.lab_wire.specs.Replies.{memory_text, reply_text}
-use Rattle.lab_desk_runs.specs.Requests.{Asks, Steps, TakesRequest, RefusesRequest, answer_to}
+use Rattle.lab_desk_events.specs.Requests.{Asks, Steps, TakesRequest, RefusesRequest, answer_to}
 use Rattle.lab_desk.specs.Twins.{Agree, AgreeOnAsked, IsElsewhere, SameButForMemory, both}
 
 -- ---- one keeper

@@ -5,24 +5,24 @@ use Rattle.std.specs.Prelude.{All, IfOk, IfErr, IsOk, IsTrue, OnOk}
 use Rattle.std.proofs.lemmas.Bool.{false≢true}
 use Rattle.lab_forms_texts.specs.declared.tick.Tick.{Tick}
 use Rattle.lab_forms_texts.specs.declared.refusals.Fault.{Fault}
-use Rattle.lab_records_kept.specs.declared.faults.BadStore.{BadStore}
+use Rattle.lab_records_keeper.specs.declared.faults.BadStore.{BadStore}
 use Rattle.lab_forms_texts.specs.declared.refusals.Fault.TheVariants.{Refused as StoreRefused, Memory}
-use Rattle.lab_records_kept.specs.declared.keeper.Keeper.{Ghosts}
-use Rattle.lab_records_kept.specs.Worlds.{World, Given, KeeperFaultFits, Passes, Quiet}
+use Rattle.lab_records_keeper.specs.declared.keeper.Keeper.{Ghosts}
+use Rattle.lab_records_keeper.specs.Worlds.{World, Given, KeeperFaultFits, Passes, Quiet}
 use Rattle.lab_records_laws.specs.Asking.{IsCommandFormed}
 use Rattle.lab_wire.specs.declared.commands.Asked.{Asked}
 use Rattle.lab_wire.specs.declared.refusals.RequestRefusal.{RequestRefusal}
 use Rattle.lab_wire.specs.declared.replies.Answer.TheVariants.{Refused}
 use Rattle.lab_wire.specs.Replies.{reply_text, memory_text}
-use Rattle.lab_desk_requests.specs.Calls.{Ends}
-use Rattle.lab_records_walks.specs.Legible.{IsLegibleChange}
-use Rattle.lab_desk_runs.specs.Copies.{IsAskedLegibly}
-use Rattle.lab_desk_runs.specs.Keeping.{AreWithin, GivenWithin, Stays}
-use Rattle.lab_desk_runs.specs.Requests.{Asks, DoesStep, IsRefusedReply, TellsFault, answer_to, changes_for, is_idle}
-use Rattle.lab_desk_runs.proofs.Copying.{asked_legible, sound_answer}
-use Rattle.lab_desk_runs.proofs.Keeping.{asked_keeps}
-use Rattle.lab_desk_runs.proofs.Lasting.{still_stays}
-use Rattle.lab_desk_runs.proofs.Staying.{asked_releasing, asked_leaves_within, asked_leaves_releasing}
+use Rattle.lab_desk_events.specs.Calls.{Ends}
+use Rattle.lab_records_copy_out.specs.Legible.{IsLegibleChange}
+use Rattle.lab_desk_events.specs.Copies.{IsAskedLegibly}
+use Rattle.lab_desk_events.specs.Keeping.{AreWithin, GivenWithin, Stays}
+use Rattle.lab_desk_events.specs.Requests.{Asks, DoesStep, IsRefusedReply, TellsFault, answer_to, changes_for, is_idle}
+use Rattle.lab_desk_events.proofs.Copying.{asked_legible, sound_answer}
+use Rattle.lab_desk_events.proofs.Keeping.{asked_keeps}
+use Rattle.lab_desk_events.proofs.Lasting.{still_stays}
+use Rattle.lab_desk_events.proofs.Staying.{asked_releasing, asked_leaves_within, asked_leaves_releasing}
 use Rattle.lab_desk.specs.Handling.{Handles, IsNobodysReply}
 
 -- it isn't both taken and refused

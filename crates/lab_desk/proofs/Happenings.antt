@@ -1,7 +1,7 @@
 -- Events as what happens, one by one.
 use Rattle.std.proofs.Common.{◌≡◌, ◌<◌, ℕ, suc, zero, List, [], ◌∷◌, length, get_or, map, refl, sym, ap, subst}
-use Rattle.lab_desk_runs.specs.declared.events.Event.{Event}
-use Rattle.lab_desk_runs.specs.Alone.{happening}
+use Rattle.lab_desk_events.specs.declared.events.Event.{Event}
+use Rattle.lab_desk_events.specs.Alone.{happening}
 
 pub happening_at : (events : List Event) (at : ℕ) (event : Event) → event ≡ get_or events at event →
     happening event ≡ get_or (map happening events) at (happening event)

@@ -2,10 +2,10 @@
 use Rattle.std.proofs.Common.{◌≡◌, List, ℕ, inl, inr}
 use Rattle.lab_forms_texts.specs.declared.tick.Tick.{Tick}
 use Rattle.lab_records_kept.specs.declared.labs.Lab.{Lab}
-use Rattle.lab_records_lists.specs.Lists.{world_of}
+use Rattle.lab_records_memory.specs.Lists.{world_of}
 use Rattle.lab_wire.specs.Replies.{memory_text}
 use Rattle.lab_desk_foundings.specs.Foundings.{memory_line, IsRefusedLine}
-use Rattle.lab_desk_runs.specs.Requests.{IsRefusedReply}
+use Rattle.lab_desk_events.specs.Requests.{IsRefusedReply}
 
 -- whoever was refused a request there was so for lack of memory
 no_storage_reply : (labs : List Lab) (asks : Type 0) (tick : Tick) (reply : List ℕ) →

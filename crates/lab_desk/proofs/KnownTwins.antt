@@ -2,7 +2,7 @@
 use Rattle.std.proofs.Common.{◌≡◌, refl, if◌then◌else◌, Some, None}
 use Rattle.std.specs.Prelude.{codes, bytes_eq}
 use Rattle.lab_records_kept.specs.declared.labs.Lab.{Lab}
-use Rattle.lab_records_kept.specs.Worlds.{Meaning, World}
+use Rattle.lab_records_keeper.specs.Worlds.{Meaning, World}
 use Rattle.lab_desk.specs.Twins.{Agree, AgreeOn, both}
 
 -- this laboratory under `aqua`, and none under any other code

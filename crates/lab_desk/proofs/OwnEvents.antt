@@ -1,8 +1,8 @@
 -- A laboratory's own events rest on the events alone, and on which of them were taken.
 use Rattle.std.proofs.Common.{◌≡◌, ℕ, Bool, List, [], ◌∷◌, None, refl, sym, ◌∙◌, ap, cond, map}
 use Rattle.std.specs.List.{cons_option}
-use Rattle.lab_desk_runs.specs.Alone.{Own, Happening, own_of}
-use Rattle.lab_desk_runs.specs.Runs.{Handled, IsTold, own_in, own_events}
+use Rattle.lab_desk_events.specs.Alone.{Own, Happening, own_of}
+use Rattle.lab_desk_events.specs.Runs.{Handled, IsTold, own_in, own_events}
 
 -- the own events among these, of which these were taken
 abbrev own_told : List ℕ → List Happening → List Bool → List Own

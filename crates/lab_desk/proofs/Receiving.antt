@@ -10,7 +10,7 @@ use Rattle.lab_wire_received.specs.Receptions.{IsReception}
 use Rattle.lab_wire.specs.Commands.{command_asked}
 use Rattle.lab_wire.specs.declared.refusals.RequestRefusal.TheVariants.{Head}
 use Rattle.lab_wire.specs.Asked.{asked, of_request}
-use Rattle.lab_desk_runs.specs.Requests.{Asks}
+use Rattle.lab_desk_events.specs.Requests.{Asks}
 use Rattle.lab_desk.specs.Serving.{AreAsked}
 
 -- ---- what is asked

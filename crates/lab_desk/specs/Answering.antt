@@ -1,10 +1,10 @@
 -- A keeper that was asked whether it answers: all is as it was, and one that answers is live.
 use Rattle.std.specs.Prelude.{Result, OnOk}
 use Rattle.lab_forms_texts.specs.declared.refusals.Fault.{Fault}
-use Rattle.lab_records_kept.specs.declared.faults.BadStore.{BadStore}
-use Rattle.lab_records_kept.specs.declared.keeper.Keeper.{Ghosts}
-use Rattle.lab_records_kept.specs.Worlds.{Given, Leaves, Lives, Passes, Quiet}
-use Rattle.lab_desk_runs.specs.Keeping.{GivenWithin, Stays}
+use Rattle.lab_records_keeper.specs.declared.faults.BadStore.{BadStore}
+use Rattle.lab_records_keeper.specs.declared.keeper.Keeper.{Ghosts}
+use Rattle.lab_records_keeper.specs.Worlds.{Given, Leaves, Lives, Passes, Quiet}
+use Rattle.lab_desk_events.specs.Keeping.{GivenWithin, Stays}
 
 pub record Answers {S : Type 0} (keeper : Ghosts S) (old new : S)
     (result : Result (Unit {0}) (Fault BadStore)) : Type 0 where

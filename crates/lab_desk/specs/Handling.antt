@@ -2,14 +2,14 @@
 -- `Desk::handle`. Serving a request, and two desks beside one another, say it by the same record.
 use Rattle.std.specs.Prelude.{◌≡◌, ◌⊎◌, Bool, true, false, ℕ, List, Ok, Err, IsTrue, IsFalse}
 use Rattle.lab_forms_texts.specs.declared.tick.Tick.{Tick}
-use Rattle.lab_records_kept.specs.declared.keeper.Keeper.{Ghosts}
-use Rattle.lab_records_kept.specs.Worlds.{World, CommitsAs, Given, IsDurable, Passes, Quiet}
+use Rattle.lab_records_keeper.specs.declared.keeper.Keeper.{Ghosts}
+use Rattle.lab_records_keeper.specs.Worlds.{World, CommitsAs, Given, IsDurable, Passes, Quiet}
 use Rattle.lab_wire.specs.declared.refusals.RequestRefusal.{RequestRefusal}
 use Rattle.lab_wire.specs.declared.replies.Answer.TheVariants.{Refused}
 use Rattle.lab_wire.specs.Replies.{reply_text, memory_text}
-use Rattle.lab_desk_runs.specs.Copies.{IsSoundAnswer}
-use Rattle.lab_desk_runs.specs.Keeping.{AreLegible, AreReleasing, GivenWithin, Stays}
-use Rattle.lab_desk_runs.specs.Requests.{Asks, MovesBy, RefusesRequest, Steps, TakesRequest, is_idle_request}
+use Rattle.lab_desk_events.specs.Copies.{IsSoundAnswer}
+use Rattle.lab_desk_events.specs.Keeping.{AreLegible, AreReleasing, GivenWithin, Stays}
+use Rattle.lab_desk_events.specs.Requests.{Asks, MovesBy, RefusesRequest, Steps, TakesRequest, is_idle_request}
 
 -- a request, and how it was handled
 pub record Handling : Type 0 where

@@ -4,13 +4,13 @@
 use Rattle.std.specs.Prelude.{◌≡◌, ◌⊎◌, ◌<◌, ◌++◌, Bool, ℕ, List, [], Option, Some, None, Result, Ok, Err, length, take}
 use Rattle.std.specs.Io.KnownBytes.{Appends}
 use Rattle.lab_forms_texts.specs.declared.tick.Tick.{Tick}
-use Rattle.lab_records_kept.specs.declared.keeper.Keeper.{Ghosts}
-use Rattle.lab_records_kept.specs.Worlds.{Passes}
+use Rattle.lab_records_keeper.specs.declared.keeper.Keeper.{Ghosts}
+use Rattle.lab_records_keeper.specs.Worlds.{Passes}
 use Rattle.lab_wire.specs.Asked.{asked}
 use Rattle.lab_desk_foundings.specs.declared.run_faults.ServeFault.{ServeFault}
 use Rattle.lab_desk_foundings.specs.declared.run_faults.ServeFault.TheVariants.{Read, Interim, Reply}
-use Rattle.lab_desk_runs.specs.Keeping.{GivenWithin, Stays}
-use Rattle.lab_desk_runs.specs.Requests.{Asks}
+use Rattle.lab_desk_events.specs.Keeping.{GivenWithin, Stays}
+use Rattle.lab_desk_events.specs.Requests.{Asks}
 use Rattle.lab_desk.specs.Handling.{Handles}
 
 -- ---- what was handled

@@ -1,9 +1,9 @@
 -- A request that two desks handle: where the two agree.
 use Rattle.std.specs.Prelude.{◌≡◌, ◌≢◌, ◌⊎◌, true, ℕ, List, Ok, Err}
-use Rattle.lab_records_kept.specs.Worlds.{World, Meaning, Given}
+use Rattle.lab_records_keeper.specs.Worlds.{World, Meaning, Given}
 use Rattle.lab_wire.specs.Replies.{memory_text}
-use Rattle.lab_desk_runs.specs.Keeping.{AreWithin}
-use Rattle.lab_desk_runs.specs.Requests.{Asks}
+use Rattle.lab_desk_events.specs.Keeping.{AreWithin}
+use Rattle.lab_desk_events.specs.Requests.{Asks}
 use Rattle.lab_desk.specs.declared.desks.Twins.{Twins}
 
 -- ---- two keepers

@@ -1,24 +1,24 @@
 //! The desk: one body for every keeper.
 
 ghost use Rattle.std.specs.Prelude.{◌≡◌, ◌≤◌, ℕ, List, length, vec_capacity, [], true, false, IsSome, Ok, IfOk, IfErr, OnOk, OnErr, option_map};
-ghost use Rattle.lab_records_kept.specs.Worlds.{Passes, Given, Leaves, Lives, Quiet, CommitsAs, IsDurable};
+ghost use Rattle.lab_records_keeper.specs.Worlds.{Passes, Given, Leaves, Lives, Quiet, CommitsAs, IsDurable};
 ghost use Rattle.lab_wire.specs.declared.replies.Answer.TheVariants.{Refused as RefusedAnswer};
 ghost use Rattle.lab_wire.specs.Asked.{asked, RequestFaultFits};
 ghost use Rattle.lab_wire.specs.Replies.{reply_text, memory_text};
-ghost use Rattle.lab_desk_runs.specs.Requests.{TellsFault};
-ghost use Rattle.lab_desk_runs.specs.Keeping.{Stays};
-ghost use Rattle.lab_desk_runs.specs.Leaving.{Settles};
+ghost use Rattle.lab_desk_events.specs.Requests.{TellsFault};
+ghost use Rattle.lab_desk_events.specs.Keeping.{Stays};
+ghost use Rattle.lab_desk_events.specs.Leaving.{Settles};
 ghost use Rattle.lab_desk_foundings.specs.Foundings.{founding_in, Founds, Births, TakesFounding, RefusesFounding, shown};
 ghost use Rattle.lab_desk_foundings.specs.Faults.{FoundFaultFits, OnBody, OnKept, OnUncommitted};
 ghost use Rattle.lab_desk.specs.Answering.{Answers};
 ghost use Rattle.lab_desk.specs.Handling.{Handles};
 
+use lab_desk_events::{Event, answer_asked};
 use lab_desk_foundings::{FoundFault, Line, founded_line, line_of_fault, newborn_of};
-use lab_desk_requests::answer_asked;
-use lab_desk_runs::Event;
 use lab_forms_texts::{LabCode, OutOfMemory, Tick};
-use lab_records_kept::{Keeper, KeeperFault, Need};
-use lab_records_walks::newborn_is_legible;
+use lab_records_copy_out::newborn_is_legible;
+use lab_records_keeper::{Keeper, KeeperFault};
+use lab_records_kept::Need;
 use lab_wire::{
     Answer, Asked, Received, RequestFault, RequestRefusal, Routes, ask, ask_received, memory_reply,
     reply_bytes,

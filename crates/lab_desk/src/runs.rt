@@ -3,18 +3,18 @@
 
 ghost use Rattle.std.specs.Prelude.{◌≡◌, ℕ, List, [], ◌∷◌, true, IfOk, IfErr, length, map, take};
 ghost use Rattle.std.specs.Io.KnownBytes.{Keeps};
-ghost use Rattle.lab_records_kept.specs.Worlds.{Passes};
-ghost use Rattle.lab_desk_runs.specs.Alone.{happening};
-ghost use Rattle.lab_desk_runs.specs.Keeping.{GivenWithin, Stays, StaysOn};
-ghost use Rattle.lab_desk_runs.specs.Leaving.{IsLiveToLast, LeavesByOne, LeavesRun};
-ghost use Rattle.lab_desk_runs.specs.Runs.{IsRun, Runs, RunsCut, Sends};
+ghost use Rattle.lab_records_keeper.specs.Worlds.{Passes};
+ghost use Rattle.lab_desk_events.specs.Alone.{happening};
+ghost use Rattle.lab_desk_events.specs.Keeping.{GivenWithin, Stays, StaysOn};
+ghost use Rattle.lab_desk_events.specs.Leaving.{IsLiveToLast, LeavesByOne, LeavesRun};
+ghost use Rattle.lab_desk_events.specs.Runs.{IsRun, Runs, RunsCut, Sends};
 ghost use Rattle.lab_desk_foundings.specs.RunFaults.{IfWrite, IfMemory};
 
 use crate::desk::Desk;
+use lab_desk_events::Event;
 use lab_desk_foundings::RunFault;
-use lab_desk_runs::Event;
-use lab_records_kept::Keeper;
-use lab_wire_heads::{WriteFault, write_reply};
+use lab_forms_streams::{WriteFault, write_whole};
+use lab_records_keeper::Keeper;
 use std::io::Write;
 
 // How one event was answered.
@@ -107,12 +107,12 @@ impl<S: Keeper + Drop> Desk<S> {
                 let line = self.answer_founding(lab, tick, body.as_slice());
                 Answered {
                     taken: line.taken,
-                    sent: write_reply(writer, line.bytes()),
+                    sent: write_whole(writer, line.bytes()),
                 }
             }
             Event::Call { tick, bytes } => Answered {
                 taken: self.handle(tick, bytes.as_slice()),
-                sent: write_reply(writer, self.reply()),
+                sent: write_whole(writer, self.reply()),
             },
         }
     }

@@ -8,11 +8,11 @@ ghost use Rattle.lab_desk.specs.Serving.{OnUnhandled, GreetsBy, Serves, Writes};
 
 use crate::desk::Desk;
 use lab_desk_foundings::ServeFault;
-use lab_forms_asks::ByteSource;
+use lab_forms_streams::{ByteSource, write_whole};
 use lab_forms_texts::Tick;
-use lab_records_kept::Keeper;
+use lab_records_keeper::Keeper;
 use lab_wire::RequestRefusal;
-use lab_wire_heads::{HeadFault, write_reply};
+use lab_wire_heads::HeadFault;
 use lab_wire_received::read_request;
 use std::io::Write;
 
@@ -43,7 +43,7 @@ impl<S: Keeper + Drop> Desk<S> {
         ensures asks { R.asks reader.new ≤ R.asks reader.old + most_asks }
     {
         self.receive(reader, writer, tick)?;
-        match write_reply(writer, self.reply()) {
+        match write_whole(writer, self.reply()) {
             Ok(()) => Ok(()),
             Err(fault) => Err(ServeFault::Reply { sent: fault.sent }),
         }

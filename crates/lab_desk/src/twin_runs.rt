@@ -1,9 +1,9 @@
 //! The law of two runs. The function does nothing: its contract says the law.
 
 ghost use Rattle.std.specs.Prelude.{◌≡◌, ℕ, List, Bool};
-ghost use Rattle.lab_records_kept.specs.Worlds.{Meaning};
-ghost use Rattle.lab_desk_runs.specs.Alone.{Happening};
-ghost use Rattle.lab_desk_runs.specs.Runs.{Handled, IsTold, AreAlone, own_events, own_answers, after_run};
+ghost use Rattle.lab_records_keeper.specs.Worlds.{Meaning};
+ghost use Rattle.lab_desk_events.specs.Alone.{Happening};
+ghost use Rattle.lab_desk_events.specs.Runs.{Handled, IsTold, AreAlone, own_events, own_answers, after_run};
 ghost use Rattle.lab_desk.specs.Twins.{Agree};
 
 /// Law: two runs that agree on a laboratory at their starts, and in which the same events of its own

@@ -6,14 +6,14 @@ use Rattle.std.proofs.lemmas.Bool.{false≢true}
 use Rattle.lab_forms_texts.specs.Faults.{Entry}
 use Rattle.lab_forms_texts.specs.declared.tick.Tick.{Tick}
 use Rattle.lab_wire_members.specs.Refusals.{body_entry}
-use Rattle.lab_records_kept.specs.Faults.{placing_fault_entry}
-use Rattle.lab_records_kept.specs.declared.faults.PlacingFault.TheVariants.{LabExists as AlreadyThere, Storage, Memory}
+use Rattle.lab_records_keeper.specs.Faults.{placing_fault_entry}
+use Rattle.lab_records_keeper.specs.declared.faults.PlacingFault.TheVariants.{LabExists as AlreadyThere, Storage, Memory}
 use Rattle.lab_records_kept.specs.declared.labs.Lab.{Lab}
 use Rattle.lab_records_machine.specs.declared.births.Founding.{Founding}
 use Rattle.lab_records_machine.specs.declared.births.BirthRefusal.{BirthRefusal}
 use Rattle.lab_records_machine.specs.declared.births.BirthRefusal.TheVariants.{CodeTaken, BadPassword, LabExists}
 use Rattle.lab_records_machine.specs.Births.{is_code_shared, are_passwords, birth_entry, born, born_at, newborn}
-use Rattle.lab_records_kept.specs.Worlds.{World, SameMeaning, Places, Given, Lives, Leaves}
+use Rattle.lab_records_keeper.specs.Worlds.{World, SameMeaning, Places, Given, Lives, Leaves}
 use Rattle.lab_desk_foundings.specs.declared.faults.FoundFault.{FoundFault}
 use Rattle.lab_desk_foundings.specs.declared.faults.FoundFault.TheVariants.{Body as OfBody, Birth as OfBirth, Placing}
 use Rattle.lab_desk_foundings.specs.Faults.{FoundFaultFits, OnBody, OnKept, found_fault_entry, is_taken}

@@ -9,7 +9,7 @@ use Rattle.lab_wire_members.specs.declared.refusals.BodyRefusal.TheVariants.{Bad
 use Rattle.lab_wire_bodies.specs.Bodies.{body_named}
 use Rattle.lab_wire_bodies.specs.Foundings.{founding_named}
 use Rattle.lab_wire_bodies.proofs.BodyLemmas.{byte_named}
-use Rattle.lab_records_kept.specs.declared.faults.PlacingFault.TheVariants.{Memory}
+use Rattle.lab_records_keeper.specs.declared.faults.PlacingFault.TheVariants.{Memory}
 use Rattle.lab_records_machine.specs.declared.births.Founding.{Founding}
 use Rattle.lab_desk_foundings.specs.declared.faults.FoundFault.{FoundFault}
 use Rattle.lab_desk_foundings.specs.declared.faults.FoundFault.TheVariants.{Placing}

@@ -2,7 +2,7 @@
 use Rattle.std.proofs.Common.{◌≡◌, decimal, codes, lit<, ◌∙◌, refl, ◌++◌, ap, List, ℕ}
 use Rattle.std.proofs.lemmas.Fmt.{decimal-digits_of}
 use Rattle.lab_forms_texts.specs.Faults.{memory_entry}
-use Rattle.lab_records_kept.specs.Faults.{storage_entry}
+use Rattle.lab_records_keeper.specs.Faults.{storage_entry}
 use Rattle.lab_desk_foundings.specs.Foundings.{memory_line, storage_line, founded_line}
 
 ninety : decimal 90 ≡ codes "90"

@@ -6,8 +6,8 @@ use Rattle.lab_forms_texts.specs.declared.refusals.Fault.{Fault}
 use Rattle.lab_wire_members.specs.declared.refusals.BodyRefusal.{BodyRefusal}
 use Rattle.lab_forms_texts.specs.declared.refusals.Fault.TheVariants.{Refused, Memory as NotRead}
 use Rattle.lab_wire_members.specs.Refusals.{body_entry}
-use Rattle.lab_records_kept.specs.declared.faults.PlacingFault.TheVariants.{LabExists, Storage, Memory as NoMemory}
-use Rattle.lab_records_kept.specs.Faults.{placing_fault_entry}
+use Rattle.lab_records_keeper.specs.declared.faults.PlacingFault.TheVariants.{LabExists, Storage, Memory as NoMemory}
+use Rattle.lab_records_keeper.specs.Faults.{placing_fault_entry}
 use Rattle.lab_records_machine.specs.Births.{birth_entry}
 use Rattle.lab_desk_foundings.specs.declared.faults.FoundFault.{FoundFault}
 use Rattle.lab_desk_foundings.specs.declared.faults.FoundFault.TheVariants.{Body as OfBody, Birth as OfBirth, Placing}

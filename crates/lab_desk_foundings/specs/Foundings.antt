@@ -9,8 +9,8 @@ use Rattle.lab_wire_members.specs.Refusals.{body_entry}
 use Rattle.lab_wire_bodies.specs.Bodies.{body_named}
 use Rattle.lab_wire_bodies.specs.Foundings.{founding_named}
 use Rattle.lab_records_kept.specs.declared.labs.Lab.{Lab}
-use Rattle.lab_records_kept.specs.Faults.{storage_entry}
-use Rattle.lab_records_kept.specs.Worlds.{World, Meaning, SetsOne, Places, Lives, Leaves}
+use Rattle.lab_records_keeper.specs.Faults.{storage_entry}
+use Rattle.lab_records_keeper.specs.Worlds.{World, Meaning, SetsOne, Places, Lives, Leaves}
 use Rattle.lab_records_machine.specs.declared.births.Founding.{Founding}
 use Rattle.lab_records_machine.specs.declared.births.BirthRefusal.{BirthRefusal}
 use Rattle.lab_records_machine.specs.Births.{birth_entry, born, newborn}

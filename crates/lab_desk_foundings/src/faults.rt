@@ -4,7 +4,7 @@ ghost use Rattle.std.specs.Prelude.{◌≡◌, Some};
 ghost use Rattle.lab_desk_foundings.specs.Faults.{found_fault_entry, is_taken};
 
 use lab_forms_texts::{OutOfMemory, RefusalKind};
-use lab_records_kept::PlacingFault;
+use lab_records_keeper::PlacingFault;
 use lab_records_machine::BirthRefusal;
 use lab_wire_members::{BodyFault, BodyRefusal};
 use std::fmt;
@@ -88,7 +88,7 @@ impl From<BirthRefusal> for FoundFault {
 
 /// Memory ran out.
 impl From<OutOfMemory> for FoundFault {
-    ghost use Rattle.lab_records_kept.specs.declared.faults.PlacingFault.TheVariants.{Memory};
+    ghost use Rattle.lab_records_keeper.specs.declared.faults.PlacingFault.TheVariants.{Memory};
     ghost use Rattle.lab_desk_foundings.specs.declared.faults.FoundFault.TheVariants.{Placing};
 
     ghost from_gives = { λ _ gives. gives ≡ Placing Memory };

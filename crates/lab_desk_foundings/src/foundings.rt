@@ -4,7 +4,7 @@ ghost use Rattle.std.specs.Prelude.{◌≡◌, ◌<◌, ◌⊎◌, length, IfOk,
 ghost use Rattle.lab_records_kept.specs.Births.{newborn_lab};
 ghost use Rattle.lab_wire_bodies.specs.Bodies.{body_named};
 ghost use Rattle.lab_wire_bodies.specs.Foundings.{founding_named};
-ghost use Rattle.lab_records_kept.specs.declared.faults.PlacingFault.TheVariants.{Memory};
+ghost use Rattle.lab_records_keeper.specs.declared.faults.PlacingFault.TheVariants.{Memory};
 ghost use Rattle.lab_desk_foundings.specs.declared.faults.FoundFault.TheVariants.{Placing};
 ghost use Rattle.lab_desk_foundings.specs.Faults.{found_fault_entry, is_taken, FoundFaultFits};
 ghost use Rattle.lab_desk_foundings.specs.Foundings.{IsNewborn, founding_in, founded_line, refused_line, memory_line, shown};

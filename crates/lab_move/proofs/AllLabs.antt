@@ -5,10 +5,10 @@ use Rattle.sqlite.specs.Effect.{Database}
 use Rattle.sqlite.specs.State.{State, HasCleanDisk}
 use Rattle.lab_store_tables.specs.Rows.{Tables}
 use Rattle.lab_move_tables.specs.Reading.{ReadsOld}
-use Rattle.lab_move_rows.proofs.OldReaders.{may_then, stands_since}
+use Rattle.lab_move_tables.proofs.OldReaders.{may_then, stands_since}
 use Rattle.lab_move_files.specs.Commits.{MakesAtOnce}
 use Rattle.lab_move_files.specs.Unfinished.{Finishes}
-use Rattle.lab_move_labs.specs.Laboratories.{codes_of}
+use Rattle.lab_move_read.specs.Laboratories.{codes_of}
 use Rattle.lab_move.specs.declared.faults.MoveFault.{MoveFault}
 use Rattle.lab_move.specs.Moving.{AreCounted, BlamesFirst, BlamesFirstOfAll, Fills, FillsAll, HasThese, IsFirstUnsound, IsSoundIn, IsWhole, IsWholeOf}
 use Rattle.lab_move.proofs.FilledFiles.{finished, whole_is}

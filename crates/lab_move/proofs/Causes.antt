@@ -7,8 +7,8 @@ use Rattle.lab_store_files.specs.declared.faults.FileFault.TheVariants.{NotADesk
 use Rattle.lab_store_files.specs.Faults.{FailedInStore}
 use Rattle.lab_store_files.specs.Schemas.{is_taken}
 use Rattle.lab_store_tables.specs.Rows.{Tables}
-use Rattle.lab_move_rows.proofs.OldReaders.{stands_since}
-use Rattle.lab_move_labs.specs.Laboratories.{codes_of}
+use Rattle.lab_move_tables.proofs.OldReaders.{stands_since}
+use Rattle.lab_move_read.specs.Laboratories.{codes_of}
 use Rattle.lab_move.specs.declared.faults.MoveFault.{MoveFault}
 use Rattle.lab_move.specs.declared.faults.MoveFault.TheVariants.{File, NotSound}
 use Rattle.lab_move.specs.Faults.{IsOfStore, is_early}

@@ -9,12 +9,12 @@ use Rattle.std.proofs.lemmas.List.Sorted.{list_any-IsPermutation, length_permuta
 use Rattle.sqlite_keyed.specs.Lists.{sort_by}
 use Rattle.sqlite_keyed.proofs.SortLemmas.{IsPermutation-sort_by}
 use Rattle.lab_records_kept.specs.declared.labs.Lab.{Lab}
-use Rattle.lab_records_kept.specs.Worlds.{Meaning, SameMeaning, Places}
+use Rattle.lab_records_keeper.specs.Worlds.{Meaning, SameMeaning, Places}
 use Rattle.lab_store_tables.specs.Rows.{LabRow, Tables}
 use Rattle.lab_store_tables.specs.Meaning.{has_code, lab_in, meaning}
-use Rattle.lab_store_columns.proofs.Lists.{text_is, text_alike}
+use Rattle.lab_store_read.proofs.Lists.{text_is, text_alike}
 use Rattle.lab_move_tables.specs.Shown.{by_lab}
-use Rattle.lab_move_labs.specs.Laboratories.{codes_of, IsLabOf, IsLabOfRow}
+use Rattle.lab_move_read.specs.Laboratories.{codes_of, IsLabOf, IsLabOfRow}
 use Rattle.lab_move.specs.Moving.{meaning_among}
 
 total_by_lab : IsTotalOrder by_lab

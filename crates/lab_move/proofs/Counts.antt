@@ -21,8 +21,8 @@ use Rattle.lab_store_tables.specs.Held.{IsTyped}
 use Rattle.lab_store_tables.specs.Ready.{tables_of}
 use Rattle.lab_store_tables.specs.Schema.{lab_schema}
 use Rattle.lab_store_tables.specs.Family.{Labs, Persons, Sessions, Forms, Fields, Choices, Records, Versions, Entries, Signatures, Trail}
-use Rattle.lab_store_columns.proofs.Queries.{IsRead}
-use Rattle.lab_store_columns.proofs.Sorted.{only_answer}
+use Rattle.lab_store_read.proofs.Queries.{IsRead}
+use Rattle.lab_store_read.proofs.Sorted.{only_answer}
 use Rattle.lab_move.specs.Counting.{AreAlike, AreCounts, counts_row, counts_text, shown_count}
 
 -- ---- the question

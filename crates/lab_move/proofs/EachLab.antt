@@ -8,7 +8,7 @@ use Rattle.sqlite.specs.State.{State, HasCleanDisk}
 use Rattle.lab_store_tables.specs.Rows.{Tables}
 use Rattle.lab_store_tables.specs.Ready.{IsAtRest}
 use Rattle.lab_move_tables.specs.Reading.{ReadsOld}
-use Rattle.lab_move_rows.proofs.OldReaders.{none_read, may_both, may_and, stands_since}
+use Rattle.lab_move_tables.proofs.OldReaders.{none_read, may_both, may_and, stands_since}
 use Rattle.lab_move_files.specs.Commits.{MakesAtOnce}
 use Rattle.lab_move_files.proofs.Commits.{told_ok}
 use Rattle.lab_move.specs.declared.faults.MoveFault.{MoveFault}

@@ -6,7 +6,7 @@ use Rattle.sqlite.specs.Held.{state}
 use Rattle.sqlite.specs.State.{State, HasCleanDisk}
 use Rattle.lab_records_kept.proofs.ReleaseLemmas.{all_released}
 use Rattle.lab_records_kept.specs.Limits.{IsWithin}
-use Rattle.lab_records_walks.specs.Legible.{IsLegible}
+use Rattle.lab_records_copy_out.specs.Legible.{IsLegible}
 use Rattle.lab_records_laws.specs.Runs.{IsReleasing}
 use Rattle.lab_store_tables.specs.Meaning.{meaning}
 use Rattle.lab_store_tables.specs.Ready.{IsAtRest, tables_of}

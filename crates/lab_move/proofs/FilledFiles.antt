@@ -3,15 +3,15 @@ use Rattle.std.proofs.Common.{◌≡◌, ◌≢◌, ℕ, Bool, true, false, List
 use Rattle.sqlite.specs.Effect.{Database}
 use Rattle.sqlite.specs.State.{State, HasCleanDisk}
 use Rattle.lab_records_kept.specs.declared.labs.Lab.{Lab}
-use Rattle.lab_records_kept.specs.Worlds.{Meaning, SameMeaning, Places}
+use Rattle.lab_records_keeper.specs.Worlds.{Meaning, SameMeaning, Places}
 use Rattle.lab_records_laws.specs.Stepping.{WhereThere}
 use Rattle.lab_store_tables.specs.Rows.{Tables, tables_in}
 use Rattle.lab_store_tables.specs.Meaning.{meaning}
-use Rattle.lab_store_columns.proofs.Lists.{text_is, text_alike}
+use Rattle.lab_store_read.proofs.Lists.{text_is, text_alike}
 use Rattle.lab_move_tables.specs.Reading.{ReadsOld}
-use Rattle.lab_move_rows.proofs.OldReaders.{stands_since}
+use Rattle.lab_move_tables.proofs.OldReaders.{stands_since}
 use Rattle.lab_move_files.specs.Unfinished.{Finishes}
-use Rattle.lab_move_labs.specs.Laboratories.{codes_of, IsLabOf}
+use Rattle.lab_move_read.specs.Laboratories.{codes_of, IsLabOf}
 use Rattle.lab_move.specs.Moving.{IsSoundLab, AreAll, IsRead, IsBegun, HasCarried, HasThese, IsWholeOf, IsWhole, CarriesFrom, meaning_among}
 use Rattle.lab_move.proofs.Codes.{all_among, lab_means, among_more}
 

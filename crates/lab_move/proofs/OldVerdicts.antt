@@ -19,12 +19,12 @@ use Rattle.sqlite.specs.Listing.{understood}
 use Rattle.sqlite.specs.State.{State, Shown}
 use Rattle.lab_forms_texts.specs.declared.refusals.Fault.{Fault}
 use Rattle.lab_forms_texts.specs.declared.refusals.Fault.TheVariants as reading
-use Rattle.lab_records_kept.specs.declared.faults.BadStore.{BadStore}
+use Rattle.lab_records_keeper.specs.declared.faults.BadStore.{BadStore}
 use Rattle.lab_store_tables.specs.Rows.{DeskRow, Tables, desk_row, desk_id, number}
 use Rattle.lab_store_tables.specs.Family.{Desk as DeskRows}
 use Rattle.lab_store_tables.specs.Held.{AreRising}
-use Rattle.lab_store_columns.proofs.Queries.{IsRead}
-use Rattle.lab_store_columns.proofs.Sorted.{only_answer}
+use Rattle.lab_store_read.proofs.Queries.{IsRead}
+use Rattle.lab_store_read.proofs.Sorted.{only_answer}
 use Rattle.lab_store_files.specs.declared.faults.FileFault.{FileFault}
 use Rattle.lab_store_files.specs.declared.faults.FileFault.TheVariants.{NotADeskFile, SchemaOld, SchemaNew, NotEmpty, Storage, Memory}
 use Rattle.lab_store_files.specs.Faults.{FailedInStore}
@@ -35,10 +35,10 @@ use Rattle.lab_move_tables.specs.OldRows.{IsOldFile, old_tables}
 use Rattle.lab_move_tables.specs.PeerFiles.{IsPeerFile, peer_schema}
 use Rattle.lab_move_tables.specs.Showing.{ShowsOf}
 use Rattle.lab_move_tables.specs.Reading.{ReadsOld}
-use Rattle.lab_move_rows.proofs.Bare.{shows_of}
-use Rattle.lab_move_rows.proofs.OldReaders.{passes_none}
-use Rattle.lab_move_rows.proofs.OldTexts.{MeansIn}
-use Rattle.lab_move_rows.proofs.OldExact.{answered}
+use Rattle.lab_move_tables.proofs.Bare.{shows_of}
+use Rattle.lab_move_tables.proofs.OldReaders.{passes_none}
+use Rattle.lab_move_tables.proofs.OldTexts.{MeansIn}
+use Rattle.lab_move_tables.proofs.OldExact.{answered}
 use Rattle.lab_move.specs.Faults.{read_told, IsOfStore}
 use Rattle.lab_move.specs.declared.old_tables.OldTable.TheVariants.{Desk}
 use Rattle.lab_move.specs.OldFiles.{old_number, own_table, is_like, is_whole, is_old_desk, whole_verdict, shown_verdict, old_verdict, IsNamedOldFile}

@@ -8,13 +8,13 @@ use Rattle.lab_records_kept.specs.Dual.{IsDual}
 use Rattle.lab_store_tables.specs.Rows.{Tables}
 use Rattle.lab_move_tables.specs.Reading.{ReadsOld}
 use Rattle.lab_move_tables.specs.Standing.{StandsFor}
-use Rattle.lab_move_rows.proofs.OldReaders.{may_and}
+use Rattle.lab_move_tables.proofs.OldReaders.{may_and}
 use Rattle.lab_move_files.specs.Commits.{MakesAtOnce}
 use Rattle.lab_move_files.proofs.Commits.{makes_weaker}
-use Rattle.lab_move_writing.specs.Carrying.{Carries}
-use Rattle.lab_move_labs.specs.declared.faults.WholeFault.{WholeFault}
-use Rattle.lab_move_labs.specs.declared.faults.WholeFault.TheVariants.{NotKept}
-use Rattle.lab_move_labs.specs.Laboratories.{IsLabOf, IsUnkept}
+use Rattle.lab_move_write.specs.Carrying.{Carries}
+use Rattle.lab_move_read.specs.declared.faults.WholeFault.{WholeFault}
+use Rattle.lab_move_read.specs.declared.faults.WholeFault.TheVariants.{NotKept}
+use Rattle.lab_move_read.specs.Laboratories.{IsLabOf, IsUnkept}
 use Rattle.lab_move.specs.declared.faults.MoveFault.{MoveFault}
 use Rattle.lab_move.specs.declared.faults.MoveFault.TheVariants.{File, NotSound}
 use Rattle.lab_move.specs.Moving.{Blames, CarriesFrom, IsRead, IsSoundIn, IsSoundLab, IsUnsoundIn}

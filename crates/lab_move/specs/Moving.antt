@@ -14,8 +14,8 @@ use Rattle.lab_records_kept.specs.declared.labs.Lab.{Lab}
 use Rattle.lab_records_kept.specs.Bound.{IsBound}
 use Rattle.lab_records_kept.specs.Dual.{IsDual}
 use Rattle.lab_records_kept.specs.Limits.{IsWithin}
-use Rattle.lab_records_kept.specs.Worlds.{Meaning, SameMeaning}
-use Rattle.lab_records_walks.specs.Legible.{IsLegible}
+use Rattle.lab_records_keeper.specs.Worlds.{Meaning, SameMeaning}
+use Rattle.lab_records_copy_out.specs.Legible.{IsLegible}
 use Rattle.lab_records_laws.specs.Runs.{IsReleasing}
 use Rattle.lab_records_laws.specs.Stepping.{WhereThere}
 use Rattle.lab_store_tables.specs.Rows.{Tables, tables_in}
@@ -28,8 +28,8 @@ use Rattle.lab_store_files.specs.Schemas.{is_taken}
 use Rattle.lab_store_files.specs.Verdicts.{Answers}
 use Rattle.lab_move_tables.specs.Standing.{StandsFor}
 use Rattle.lab_move_files.specs.Unfinished.{IsBeingFilled}
-use Rattle.lab_move_writing.specs.Carrying.{Carries}
-use Rattle.lab_move_labs.specs.Laboratories.{codes_of, IsLabOf, IsUnkept}
+use Rattle.lab_move_write.specs.Carrying.{Carries}
+use Rattle.lab_move_read.specs.Laboratories.{codes_of, IsLabOf, IsUnkept}
 use Rattle.lab_move.specs.declared.faults.MoveFault.{MoveFault}
 use Rattle.lab_move.specs.declared.faults.MoveFault.TheVariants.{File, NotSound}
 use Rattle.lab_move.specs.Faults.{IsOfStore}

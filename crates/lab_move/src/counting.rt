@@ -6,15 +6,15 @@ ghost use Rattle.sqlite.specs.Held.{state};
 ghost use Rattle.sqlite.specs.State.{HasCleanDisk};
 ghost use Rattle.lab_store_tables.specs.Held.{IsTyped};
 ghost use Rattle.lab_store_tables.specs.Ready.{tables_of};
-ghost use Rattle.lab_store_columns.specs.Reads.{Asks};
+ghost use Rattle.lab_store_read.specs.Reads.{Asks};
 ghost use Rattle.lab_move_tables.specs.Reading.{ReadsOld};
 ghost use Rattle.lab_move.specs.Counting.{AreAlike, AreCounts, HasAsMany, cell, counts_text};
 ghost use Rattle.lab_move.specs.Faults.{IsOfStore};
 
 use crate::faults::store_fault;
-use lab_store_columns::cells::id_of;
-use lab_store_columns::{BadStore, ReadFault, Readable, read_fault};
 use lab_store_files::FileFault;
+use lab_store_read::cells::id_of;
+use lab_store_read::{BadStore, ReadFault, Readable, read_fault};
 use sqlite::{Alter, Connection, Row};
 
 /// How many rows each table has, but for `desk`.

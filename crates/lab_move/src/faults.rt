@@ -4,8 +4,8 @@ ghost use Rattle.std.specs.Prelude.{◌≡◌, Some};
 ghost use Rattle.lab_move.specs.Faults.{move_fault_entry, read_told};
 
 use lab_forms_texts::LabCode;
-use lab_store_columns::ReadFault;
 use lab_store_files::FileFault;
+use lab_store_read::ReadFault;
 use std::fmt;
 use thiserror::Error;
 

@@ -13,9 +13,9 @@ ghost use Rattle.lab_move_tables.specs.Reading.{ReadsOld};
 ghost use Rattle.lab_move_files.specs.Commits.{MakesAtOnce};
 ghost use Rattle.lab_move_files.specs.Unfinished.{Finishes, IsBeingFilled};
 ghost use Rattle.lab_move_laws.specs.Namings.{NamesSchema};
-ghost use Rattle.lab_move_writing.specs.Carrying.{Carries};
-ghost use Rattle.lab_move_labs.specs.declared.faults.WholeFault.TheVariants.{NotKept};
-ghost use Rattle.lab_move_labs.specs.Laboratories.{codes_of};
+ghost use Rattle.lab_move_write.specs.Carrying.{Carries};
+ghost use Rattle.lab_move_read.specs.declared.faults.WholeFault.TheVariants.{NotKept};
+ghost use Rattle.lab_move_read.specs.Laboratories.{codes_of};
 ghost use Rattle.lab_move.specs.Counting.{HasAsMany};
 ghost use Rattle.lab_move.specs.Moving.{Blames, BlamesFirst, BlamesFirstOfAll, CarriesFrom, Fills, FillsAll, HasThese, AreCounted, IsBegun, IsRead, IsSoundIn, IsSoundLab, IsUnsoundIn, IsWhole, IsWholeOf};
 
@@ -24,11 +24,11 @@ use crate::faults::{MoveFault, store_fault};
 use crate::testing::{not_sound, test_lab};
 use lab_forms_texts::LabCode;
 use lab_move_files::finish;
-use lab_move_labs::{WholeFault, codes, whole};
-use lab_move_writing::{MoveProgress, place_lab};
+use lab_move_read::{WholeFault, codes, whole};
+use lab_move_write::{MoveProgress, place_lab};
 use lab_records_kept::Lab;
-use lab_store_columns::Readable;
 use lab_store_files::FileFault;
+use lab_store_read::Readable;
 use sqlite::{Alter, Connection};
 use std::alloc::Global;
 

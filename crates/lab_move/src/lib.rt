@@ -17,9 +17,9 @@ mod testing;
 
 pub use faults::MoveFault;
 pub use lab_forms_texts::{LabCode, OutOfMemory};
+pub use lab_move_checks::{is_sound, is_within};
 pub use lab_move_files::{Inside, finish, make_tables};
-pub use lab_move_sound::{is_sound, is_within};
-pub use lab_move_writing::{MoveProgress, Unwatched, place_lab};
+pub use lab_move_write::{MoveProgress, Unwatched, place_lab};
 pub use lab_records_kept::Lab;
 pub use lab_store_files::FileFault;
 pub use moving::{an_exact_file_is_named, an_unfinished_file_is_refused, migrate};

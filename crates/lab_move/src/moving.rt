@@ -24,7 +24,7 @@ use crate::faults::MoveFault;
 use crate::filling::fill;
 use crate::opening::{OldFile, open_old};
 use lab_move_files::make_tables;
-use lab_move_writing::MoveProgress;
+use lab_move_write::MoveProgress;
 use lab_store_files::FileFault;
 use sqlite::{Alter, Connection};
 use std::alloc::Global;

@@ -13,8 +13,8 @@ ghost use Rattle.lab_move.specs.OldFiles.{whole_verdict, number_verdict, old_ver
 
 use crate::faults::store_fault;
 use crate::schemas::{has_number, is_whole};
-use lab_store_columns::{ReadFault, Readable, read_fault};
 use lab_store_files::FileFault;
+use lab_store_read::{ReadFault, Readable, read_fault};
 use sqlite::types::ValueRef;
 use sqlite::{Alter, Connection, Row};
 use sqlite_schema::schema::Schema;

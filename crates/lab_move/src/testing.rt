@@ -9,9 +9,9 @@ ghost use Rattle.lab_move.specs.Moving.{Blames, IsSoundLab};
 
 use crate::faults::MoveFault;
 use lab_forms_texts::LabCode;
-use lab_move_sound::{is_sound, is_within};
+use lab_move_checks::{is_sound, is_within};
+use lab_records_copy_out::lab_is_legible;
 use lab_records_kept::Lab;
-use lab_records_walks::lab_is_legible;
 use lab_store_files::FileFault;
 use std::alloc::Global;
 

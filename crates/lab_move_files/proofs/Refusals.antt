@@ -12,7 +12,7 @@ use Rattle.lab_store_tables.specs.Rows.{DeskRow, desk_row, desk_id, number}
 use Rattle.lab_store_tables.specs.Held.{IsTyped}
 use Rattle.lab_store_tables.specs.Ready.{tables_of}
 use Rattle.lab_store_tables.specs.Family.{Desk}
-use Rattle.lab_store_columns.proofs.Sorted.{only_answer}
+use Rattle.lab_store_read.proofs.Sorted.{only_answer}
 use Rattle.lab_store_files.specs.declared.faults.FileFault.{FileFault}
 use Rattle.lab_store_files.specs.declared.faults.FileFault.TheVariants.{NotADeskFile}
 use Rattle.lab_store_files.specs.Faults.{FailedInStore}

@@ -4,7 +4,7 @@
 use Rattle.std.specs.Prelude.{◌≡◌, ℕ, List, [], None, Result, OnOk, IsTrue}
 use Rattle.sqlite.specs.Effect.{Database}
 use Rattle.sqlite.specs.State.{State, HasCleanDisk}
-use Rattle.lab_records_kept.specs.Worlds.{SameMeaning}
+use Rattle.lab_records_keeper.specs.Worlds.{SameMeaning}
 use Rattle.lab_store_tables.specs.Rows.{tables_in}
 use Rattle.lab_store_tables.specs.Family.{empty_tables}
 use Rattle.lab_store_tables.specs.Held.{IsTyped, Holds}

@@ -10,7 +10,7 @@ ghost use Rattle.lab_move_files.specs.Unfinished.{Finishes};
 ghost use Rattle.lab_move_laws.specs.Namings.{NamesSchema};
 
 use crate::inside::Inside;
-use lab_store_columns::{ReadFault, read_fault};
+use lab_store_read::{ReadFault, read_fault};
 use lab_store_write::Writable;
 use lab_store_write::statements::run;
 use sqlite::{Alter, Connection, Error, Transaction};

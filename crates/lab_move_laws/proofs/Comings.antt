@@ -7,7 +7,7 @@ use Rattle.lab_records_kept.specs.declared.changes.Change.{Change}
 use Rattle.lab_records_kept.specs.declared.changes.Change.TheVariants.{Last, Strays, PersonAdded, PersonSet, SessionAdded, SessionSet, SessionsClosed, FormAdded, RecordAdded, RowAdded, VersionOpened, SignatureAdded, TrailAdded}
 use Rattle.lab_records_kept.specs.Changes.{change, changed_in, IsKnownIfAny, ChangesFit}
 use Rattle.lab_records_kept.specs.Lookups.{last_form, next_form_version}
-use Rattle.lab_records_kept.specs.Worlds.{Changes}
+use Rattle.lab_records_keeper.specs.Worlds.{Changes}
 use Rattle.lab_store_tables.specs.Rows.{LabRow, TrailRow, Tables}
 use Rattle.lab_store_tables.specs.Meaning.{told_in, by_trail, lab_in, has_code, meaning}
 use Rattle.lab_store_tables.specs.WellKept.{AreWellKept}

@@ -8,7 +8,7 @@ use Rattle.lab_records_kept.specs.Bound.{IsBound}
 use Rattle.lab_records_kept.specs.Changes.{changed_in}
 use Rattle.lab_records_kept.specs.Dual.{IsDual}
 use Rattle.lab_records_kept.specs.Limits.{IsWithin}
-use Rattle.lab_records_kept.specs.Worlds.{Places}
+use Rattle.lab_records_keeper.specs.Worlds.{Places}
 use Rattle.lab_store_tables.specs.Rows.{Tables}
 use Rattle.lab_store_tables.specs.Meaning.{lab_in, meaning}
 use Rattle.lab_store_tables.specs.WellKept.{AreWellKept}

@@ -8,7 +8,7 @@ use Rattle.sqlite_keyed.specs.Lists.{sort_by}
 use Rattle.sqlite_keyed.proofs.ListLemmas.{filter_none}
 use Rattle.sqlite_keyed.proofs.KeyedLemmas.{IsKeyedBy-insert_by}
 use Rattle.lab_records_kept.specs.declared.labs.Lab.{Lab}
-use Rattle.lab_records_kept.specs.Worlds.{SameElsewhere}
+use Rattle.lab_records_keeper.specs.Worlds.{SameElsewhere}
 use Rattle.lab_store_tables.specs.Rows.{LabRow, PersonRow, SessionRow, FormRow, RecordRow, TrailRow, Tables, lab_id}
 use Rattle.lab_store_tables.specs.Meaning.{person_in, by_code, session_in, by_session, form_in, by_form, record_in, by_record, told_in, by_trail, lab_in, has_code, meaning}
 use Rattle.lab_store_tables.specs.WellKept.{same_lab, are_apart, have_parents, are_keys_unique, AreWellKept}

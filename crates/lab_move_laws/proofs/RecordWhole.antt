@@ -19,7 +19,7 @@ use Rattle.lab_records_kept.specs.Bound.{IsChain}
 use Rattle.lab_records_kept.specs.Changes.{change}
 use Rattle.lab_records_kept.specs.Digests.{digest_of, previous_of}
 use Rattle.lab_records_kept.specs.Dual.{SaysOfApproval}
-use Rattle.lab_records_kept.specs.Worlds.{Changes}
+use Rattle.lab_records_keeper.specs.Worlds.{Changes}
 use Rattle.lab_store_tables.specs.Rows.{LabRow, RecordRow, VersionRow, EntryRow, SignatureRow, Tables, record_id, version_id}
 use Rattle.lab_store_tables.specs.Columns.{format_in, format_number}
 use Rattle.lab_store_tables.specs.Meaning.{lab_in, has_code, meaning, leaves_of, leaf_in, by_version, version_after, chained, cover_in, record_in, by_record, records_of, form_at}

@@ -1,6 +1,6 @@
 //! Law: a file whose schema is named last.
 ghost use Rattle.std.specs.Prelude.{◌≡◌, []};
-ghost use Rattle.lab_records_kept.specs.Worlds.{SameMeaning};
+ghost use Rattle.lab_records_keeper.specs.Worlds.{SameMeaning};
 ghost use Rattle.lab_store_tables.specs.Rows.{Tables};
 ghost use Rattle.lab_store_tables.specs.Meaning.{meaning};
 ghost use Rattle.lab_store_tables.specs.WellKept.{AreWellKept, IsWellKept};

@@ -3,7 +3,7 @@ ghost use Rattle.lab_records_kept.specs.declared.labs.Lab.{Lab};
 ghost use Rattle.lab_records_kept.specs.Bound.{IsBound};
 ghost use Rattle.lab_records_kept.specs.Dual.{IsDual};
 ghost use Rattle.lab_records_kept.specs.Limits.{IsWithin};
-ghost use Rattle.lab_records_kept.specs.Worlds.{Places};
+ghost use Rattle.lab_records_keeper.specs.Worlds.{Places};
 ghost use Rattle.lab_store_tables.specs.Rows.{Tables};
 ghost use Rattle.lab_store_tables.specs.Meaning.{meaning};
 ghost use Rattle.lab_store_tables.specs.WellKept.{AreWellKept};

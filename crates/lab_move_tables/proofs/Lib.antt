@@ -2,3 +2,12 @@ pub mod OldSchemaValues
 pub mod KnownOldFile
 pub mod PeerValues
 pub mod KnownFiles
+pub mod Bare
+pub mod OldReaders
+pub mod OldTexts
+pub mod PeerTexts
+pub mod OldKeys
+pub mod OldOnes
+pub mod OldExact
+pub mod Stands
+pub mod KnownShown

@@ -9,3 +9,4 @@ pub mod Showing
 pub mod Standing
 pub mod KeptLabs
 pub mod Reading
+pub mod Checks

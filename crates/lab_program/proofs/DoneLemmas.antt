@@ -9,9 +9,9 @@ use Rattle.sqlite.specs.Held.{Held}
 use Rattle.sqlite_trees.specs.declared.store.Store.{Ghosts}
 use Rattle.lab_forms_texts.specs.Faults.{memory_entry}
 use Rattle.lab_forms_texts.specs.Names.{is_lab_code}
-use Rattle.lab_wire_heads.specs.declared.sending.WriteFault.{WriteFault as Untold}
-use Rattle.lab_records_kept.specs.declared.keeper.Keeper.{Ghosts as KeeperOf}
-use Rattle.lab_desk_runs.specs.Runs.{IsAnswer}
+use Rattle.lab_forms_streams.specs.declared.sending.WriteFault.{WriteFault as Untold}
+use Rattle.lab_records_keeper.specs.declared.keeper.Keeper.{Ghosts as KeeperOf}
+use Rattle.lab_desk_events.specs.Runs.{IsAnswer}
 use Rattle.lab_program_replay.specs.declared.fault.ReplayFault.TheVariants.{Memory as ReplayMemory}
 use Rattle.lab_program_replay.specs.Event.{next_event}
 use Rattle.lab_program_replay.specs.Replay.{BeginsWith, Stops, Tells as TellsReplay}
@@ -19,10 +19,10 @@ use Rattle.lab_copy_rows.specs.Copies.{verdict}
 use Rattle.lab_copy.specs.Checks.{rows_of}
 use Rattle.lab_program_check.specs.declared.faults.StopFault.TheVariants.{Memory as StopMemory}
 use Rattle.lab_program_check.specs.Verdicts.{IsCheck}
-use Rattle.lab_program_shelves.specs.Faults.{unopened_fault}
+use Rattle.lab_program_opening.specs.Faults.{unopened_fault}
 use Rattle.lab_program_files.specs.FileWorlds.{file_keeper}
-use Rattle.lab_program_shelves.specs.Files.{IsBlankAt, IsOpened, IsOurs, IsOursAnywhere}
-use Rattle.lab_program_outside.specs.Sources.{Drawing}
+use Rattle.lab_program_opening.specs.Files.{IsBlankAt, IsOpened, IsOurs, IsOursAnywhere}
+use Rattle.lab_program_host.specs.Sources.{Drawing}
 use Rattle.lab_program_files.specs.Copying.{CopyTask}
 use Rattle.lab_program_replay.specs.Replays.{IsReplay, ReplaysFromNothing}
 use Rattle.lab_program_files.specs.Serving.{ServesFile}
@@ -103,7 +103,7 @@ no_check (Some bytes) before after told_before told_after status told =
 
 -- ---- whichever is asked for
 
-module _ {S Shelf : Type 0} (disk : Ghosts S) (holds : Shelf → List ℕ → Trees → Type 0) (shelf : Shelf) (drawing : Drawing)
+module _ {S Volume : Type 0} (disk : Ghosts S) (holds : Volume → List ℕ → Trees → Type 0) (volume : Volume) (drawing : Drawing)
     (before after told_before told_after : Option (List ℕ))
     (status : Result ℕ Untold) where
   no_copy_if : (IsHeld : Trees → Type 0) (task : CopyTask) (ordered : Bool) → IsUnbegun before after told_before told_after status
@@ -114,14 +114,14 @@ module _ {S Shelf : Type 0} (disk : Ghosts S) (holds : Shelf → List ℕ → Tr
   no_copy_if IsHeld task false told = (OutOfMemory, inl refl, told)
 
   pub never_done : (asked : Asked) (input : Option (List ℕ)) → IsUnbegun before after told_before told_after status
-      → IsDone disk holds shelf drawing asked input (seen before after told_before told_after status)
+      → IsDone disk holds volume drawing asked input (seen before after told_before told_after status)
   never_done (founds file lab) input told = never_begun before after told_before told_after status _
       (no_founding before after told_before told_after status (file_keeper disk)
-      (record { drawing = drawing; code = lab; body = input }) (IsOpened disk (holds shelf file)))
+      (record { drawing = drawing; code = lab; body = input }) (IsOpened disk (holds volume file)))
       (is_lab_code lab) told
   never_done (serves file port count) input told =
-      no_serving before after told_before told_after status (file_keeper disk) (IsOurs disk (holds shelf file)) (IsOursAnywhere disk holds) drawing count told
-  never_done (copies file lab from to) input told = no_copy_if (holds shelf file) (record {
+      no_serving before after told_before told_after status (file_keeper disk) (IsOurs disk (holds volume file)) (IsOursAnywhere disk holds) drawing count told
+  never_done (copies file lab from to) input told = no_copy_if (holds volume file) (record {
     moments = drawing.moments;
     later = drawing.later;
     code = lab;
@@ -129,14 +129,14 @@ module _ {S Shelf : Type 0} (disk : Ghosts S) (holds : Shelf → List ℕ → Tr
     to = to;
   }) (nat_le from to) told
   never_done (migrates old new) input told =
-      no_migration before after told_before told_after status disk (holds shelf old) (IsBlankAt disk holds new) told
+      no_migration before after told_before told_after status disk (holds volume old) (IsBlankAt disk holds new) told
   never_done checks input told = no_check input before after told_before told_after status told
   never_done replays input told = no_replay input before after told_before told_after status told
   never_done (rehearses lab moment) input told = never_begun before after told_before told_after status _
       (no_rehearsal before after told_before told_after status lab input) (is_lab_code lab) told
 
   pub done_as : (asked other : Asked) (input : Option (List ℕ)) → asked ≡ other
-      → IsDone disk holds shelf drawing other input (seen before after told_before told_after status)
-      → IsDone disk holds shelf drawing asked input (seen before after told_before told_after status)
+      → IsDone disk holds volume drawing other input (seen before after told_before told_after status)
+      → IsDone disk holds volume drawing asked input (seen before after told_before told_after status)
   done_as asked other input is done =
-      subst (λ a. IsDone disk holds shelf drawing a input (seen before after told_before told_after status)) (sym is) done
+      subst (λ a. IsDone disk holds volume drawing a input (seen before after told_before told_after status)) (sym is) done

@@ -4,7 +4,7 @@ use Rattle.std.proofs.Common.{◌≡◌, refl, codes, Some, None}
 use Rattle.lab_forms_texts.specs.Names.{is_lab_code}
 use Rattle.lab_forms_texts.specs.declared.faults.BadName.{BadName}
 use Rattle.lab_forms_texts.specs.declared.refusals.Fault.{Fault}
-use Rattle.lab_program_outside.specs.TaskEnds.{TaskEnd}
+use Rattle.lab_program_host.specs.TaskEnds.{TaskEnd}
 use Rattle.lab_program.specs.Laboratories.{front_of, OfCode}
 
 pub known_fronts : (front_of None ≡ None) × (front_of (Some (codes "{}")) ≡ Some (codes "{}"))

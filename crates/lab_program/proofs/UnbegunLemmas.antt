@@ -9,13 +9,13 @@ use Rattle.lab_forms_texts.specs.Names.{is_lab_code}
 use Rattle.lab_forms_texts.specs.declared.faults.BadName.{BadName}
 use Rattle.lab_forms_texts.specs.declared.refusals.Fault.{Fault}
 use Rattle.lab_forms_texts.specs.declared.refusals.Fault.TheVariants.{Refused, Memory as NoMemory}
-use Rattle.lab_wire_heads.specs.declared.sending.WriteFault.{WriteFault as Untold}
-use Rattle.lab_records_kept.specs.declared.keeper.Keeper.{Ghosts as KeeperOf}
-use Rattle.lab_program_outside.specs.TaskEnds.{TaskEnd}
+use Rattle.lab_forms_streams.specs.declared.sending.WriteFault.{WriteFault as Untold}
+use Rattle.lab_records_keeper.specs.declared.keeper.Keeper.{Ghosts as KeeperOf}
+use Rattle.lab_program_host.specs.TaskEnds.{TaskEnd}
 use Rattle.lab_program_serve.specs.RehearseTask.{FoundsBy, IsRehearsal}
-use Rattle.lab_program_outside.specs.declared.faults.RehearsalFault.TheVariants.{Server as RehearsalServer}
-use Rattle.lab_program_outside.specs.declared.faults.ServerFault.TheVariants.{Memory as ServerMemory}
-use Rattle.lab_program_shelves.specs.Faults.{Declines as DeclinesTask, unopened_fault}
+use Rattle.lab_program_host.specs.declared.faults.RehearsalFault.TheVariants.{Server as RehearsalServer}
+use Rattle.lab_program_host.specs.declared.faults.ServerFault.TheVariants.{Memory as ServerMemory}
+use Rattle.lab_program_opening.specs.Faults.{Declines as DeclinesTask, unopened_fault}
 use Rattle.lab_program_files.specs.Copying.{CopyTask, IsCopying}
 use Rattle.lab_program_files.specs.Foundings.{FoundTask, IsFounding}
 use Rattle.lab_program_app.specs.Explaining.{Stopped}

@@ -1,17 +1,17 @@
 -- What the first bytes of an input found is what all of it founds, where they are more than a body may have.
 use Rattle.std.proofs.Common.{◌≡◌, ℕ, List, Option, Some, None, Result, Ok, Err, ap₂, lit<, subst, take}
 use Rattle.std.specs.Prelude.{IfOk, IfSome, option_map}
-use Rattle.lab_records_kept.specs.declared.keeper.Keeper.{Ghosts as KeeperOf}
+use Rattle.lab_records_keeper.specs.declared.keeper.Keeper.{Ghosts as KeeperOf}
 use Rattle.lab_desk_foundings.specs.Faults.{FoundFaultFits}
 use Rattle.lab_forms_texts.specs.declared.tick.Tick.{Tick}
 use Rattle.lab_desk_foundings.specs.Foundings.{Body, Founds, IsNewborn, founding_in}
 use Rattle.lab_desk_foundings.proofs.Bodies.{said_by_front}
-use Rattle.lab_program_outside.specs.Sources.{Drawing}
-use Rattle.lab_program_outside.specs.TaskEnds.{TaskEnd}
-use Rattle.lab_program_outside.specs.declared.faults.RehearsalFault.{RehearsalFault}
-use Rattle.lab_program_outside.specs.declared.faults.RehearsalFault.TheVariants.{Founding, Server}
-use Rattle.lab_program_outside.specs.declared.faults.ServerFault.TheVariants.{Read, Write, Memory}
-use Rattle.lab_program_shelves.specs.declared.faults.OpenFault.{OpenFault}
+use Rattle.lab_program_host.specs.Sources.{Drawing}
+use Rattle.lab_program_host.specs.TaskEnds.{TaskEnd}
+use Rattle.lab_program_host.specs.declared.faults.RehearsalFault.{RehearsalFault}
+use Rattle.lab_program_host.specs.declared.faults.RehearsalFault.TheVariants.{Founding, Server}
+use Rattle.lab_program_host.specs.declared.faults.ServerFault.TheVariants.{Read, Write, Memory}
+use Rattle.lab_program_opening.specs.declared.faults.OpenFault.{OpenFault}
 use Rattle.lab_program_serve.specs.Rehearsals.{rehearsal_tick}
 use Rattle.lab_program_serve.specs.RehearseTask.{FoundsBy, IsRehearsal}
 use Rattle.lab_program_files.specs.Foundings.{Ends, EndsFounding, EndsOver, FoundTask, IsFoundedAt, IsFounding, IsRefusedAt}

@@ -5,10 +5,10 @@ use Rattle.sqlite_trees.specs.declared.store.Store.{Ghosts}
 use Rattle.lab_copy_rows.specs.Copies.{verdict}
 use Rattle.lab_copy.specs.Checks.{rows_of}
 use Rattle.lab_program_check.specs.Verdicts.{IsCheck}
-use Rattle.lab_program_outside.specs.Sources.{Drawing}
-use Rattle.lab_program_outside.specs.TaskEnds.{TaskEnd}
+use Rattle.lab_program_host.specs.Sources.{Drawing}
+use Rattle.lab_program_host.specs.TaskEnds.{TaskEnd}
 use Rattle.lab_program_files.specs.FileWorlds.{file_keeper}
-use Rattle.lab_program_shelves.specs.Files.{IsBlankAt, IsOurs, IsOursAnywhere}
+use Rattle.lab_program_opening.specs.Files.{IsBlankAt, IsOurs, IsOursAnywhere}
 use Rattle.lab_program_replay.specs.Replays.{IsReplay}
 use Rattle.lab_program_files.specs.Serving.{ServesFile}
 use Rattle.lab_program_moves.specs.Moves.{IsMigration}
@@ -16,28 +16,28 @@ use Rattle.lab_program.specs.Laboratories.{IsCopiedIf, IsFounded, IsRehearsed}
 use Rattle.lab_program_words.specs.Tasks.{Asked, founds, serves, copies, migrates, checks, replays, rehearses}
 
 -- what is asked for is done, from this input, at the moment and with the words that were drawn,
--- over files that held what the shelf says of their paths. Who is at a port can't be said here
-abbrev pub IsDone : {S Shelf : Type 0} → Ghosts S → (Shelf → List ℕ → Trees → Type 0) → Shelf →
+-- over files that held what the volume says of their paths. Who is at a port can't be said here
+abbrev pub IsDone : {S Volume : Type 0} → Ghosts S → (Volume → List ℕ → Trees → Type 0) → Volume →
     Drawing → Asked → (input : Option (List ℕ)) → TaskEnd → Type 0
-IsDone disk holds shelf drawing (founds file lab) input end = IsFounded disk (holds shelf file)
+IsDone disk holds volume drawing (founds file lab) input end = IsFounded disk (holds volume file)
     (record { drawing = drawing; code = lab; body = input }) end
-IsDone disk holds shelf drawing (serves file port count) input end =
-    ServesFile (file_keeper disk) (IsOurs disk (holds shelf file)) (IsOursAnywhere disk holds)
+IsDone disk holds volume drawing (serves file port count) input end =
+    ServesFile (file_keeper disk) (IsOurs disk (holds volume file)) (IsOursAnywhere disk holds)
     drawing count end
-IsDone disk holds shelf drawing (copies file lab from to) input end =
-    IsCopiedIf disk (holds shelf file) (record {
+IsDone disk holds volume drawing (copies file lab from to) input end =
+    IsCopiedIf disk (holds volume file) (record {
       moments = drawing.moments;
       later = drawing.later;
       code = lab;
       from = from;
       to = to;
     }) (nat_le from to) end
-IsDone disk holds shelf drawing (migrates old new) input end =
-    IsMigration disk (holds shelf old) (IsBlankAt disk holds new) end
-IsDone disk holds shelf drawing checks input end = IfSome input (λ bytes.
+IsDone disk holds volume drawing (migrates old new) input end =
+    IsMigration disk (holds volume old) (IsBlankAt disk holds new) end
+IsDone disk holds volume drawing checks input end = IfSome input (λ bytes.
     IsCheck (verdict (rows_of bytes)) end.status end.before end.after end.told_before
     end.told_after)
-IsDone disk holds shelf drawing replays input end =
+IsDone disk holds volume drawing replays input end =
     IsReplay input end.before end.after end.told_before end.told_after end.status
-IsDone disk holds shelf drawing (rehearses lab moment) input end =
+IsDone disk holds volume drawing (rehearses lab moment) input end =
     IsRehearsed lab input end

@@ -8,10 +8,10 @@ use Rattle.lab_forms_texts.specs.Faults.{name_fault_entry}
 use Rattle.lab_forms_texts.specs.Names.{is_lab_code}
 use Rattle.lab_forms_texts.specs.declared.faults.BadName.{BadName}
 use Rattle.lab_forms_texts.specs.declared.refusals.Fault.{Fault}
-use Rattle.lab_program_outside.specs.Faults.{Tells}
-use Rattle.lab_program_outside.specs.TaskEnds.{TaskEnd}
+use Rattle.lab_program_host.specs.Faults.{Tells}
+use Rattle.lab_program_host.specs.TaskEnds.{TaskEnd}
 use Rattle.lab_program_serve.specs.RehearseTask.{IsRehearsal}
-use Rattle.lab_program_shelves.specs.Files.{IsOpened, IsOurs}
+use Rattle.lab_program_opening.specs.Files.{IsOpened, IsOurs}
 use Rattle.lab_program_files.specs.Copying.{CopyTask, IsCopying}
 use Rattle.lab_program_files.specs.FileWorlds.{file_keeper}
 use Rattle.lab_program_files.specs.Foundings.{FoundTask, IsFounding}

@@ -2,7 +2,7 @@
 
 ghost use Rattle.std.specs.Prelude.{map};
 ghost use Rattle.clap.specs.Words.{fault_of};
-ghost use Rattle.lab_program_outside.specs.Sources.{drawing_of};
+ghost use Rattle.lab_program_host.specs.Sources.{drawing_of};
 ghost use Rattle.lab_program_app.specs.Apps.{labdesk_app};
 ghost use Rattle.lab_program.specs.CommandLine.{IsDone};
 ghost use Rattle.lab_program_app.specs.Explaining.{IsExplained};
@@ -10,20 +10,20 @@ ghost use Rattle.lab_program_words.specs.Tasks.{Asked, Asks, IsTask};
 
 use crate::copies::check_for;
 use crate::laboratories::{copy_for, found_for, rehearse_for};
+use lab_forms_streams::WriteFault;
 use lab_program_app::explain;
-use lab_program_files::{Closing, Progress, Shelf, Trouble, serve};
+use lab_program_files::{Closing, Progress, Trouble, Volume, serve};
+use lab_program_host::{Chance, Clock, Host};
 use lab_program_moves::migrate;
-use lab_program_outside::{Chance, Clock, Host};
 use lab_program_replay::replay;
 use lab_program_words::{Task, task_of};
-use lab_wire_heads::WriteFault;
 use sqlite::Connection;
 use std::convert::AsStr;
 use std::io::{Read, Write};
 use std::net::Net;
 
 // Does a task, and answers the status.
-fn do_task<N: Net, H: Shelf, C: Clock, X: Chance, P: Progress, R: Read + Drop, W: Write, E: Write>(
+fn do_task<N: Net, H: Volume, C: Clock, X: Chance, P: Progress, R: Read + Drop, W: Write, E: Write>(
     host: &mut Host<'_, N, H, C, X, P>,
     task: Task<'_>,
     input: R,
@@ -33,7 +33,7 @@ fn do_task<N: Net, H: Shelf, C: Clock, X: Chance, P: Progress, R: Read + Drop, W
 where
     Connection<H::Disk>: Closing,
     ensures { (asked : Asked) → IsTask task.entry asked →
-        IsDone H.Disk.Store H.holds host.old.shelf
+        IsDone H.Disk.Store H.holds host.old.volume
         (drawing_of (C.coming host.old.clock) (C.coming host.new.clock)
         (X.coming host.old.chance) (X.coming host.new.chance)) asked (R.remaining input) (record {
           before = W.contents output.old;
@@ -55,7 +55,7 @@ where
         Task::Migrate { old, new } => migrate(host, old, new, output, errors),
         Task::Check => check_for(host, input, output, errors),
         Task::Replay => {
-            host.shelf.advise(Trouble::EventsAwaited);
+            host.volume.advise(Trouble::EventsAwaited);
             replay(host.alloc, input, output, errors)
         }
         Task::Rehearse { lab, seconds } => rehearse_for(host, lab, seconds, input, output, errors),
@@ -69,7 +69,7 @@ where
 /// A fault of status 1 could not be told whole, as standard error failed.
 pub fn labdesk<
     N: Net,
-    H: Shelf,
+    H: Volume,
     C: Clock,
     X: Chance,
     P: Progress,
@@ -87,7 +87,7 @@ pub fn labdesk<
 where
     Connection<H::Disk>: Closing,
     ensures done { (asked : Asked) → Asks asked (map S.text words.now) →
-        IsDone H.Disk.Store H.holds host.old.shelf
+        IsDone H.Disk.Store H.holds host.old.volume
         (drawing_of (C.coming host.old.clock) (C.coming host.new.clock)
         (X.coming host.old.chance) (X.coming host.new.chance)) asked (R.remaining input) (record {
           before = W.contents output.old;

@@ -5,16 +5,16 @@ ghost use Rattle.lab_copy_rows.specs.Copies.{verdict};
 ghost use Rattle.lab_copy.specs.Checks.{rows_of};
 ghost use Rattle.lab_program_check.specs.Verdicts.{IsCheck};
 
+use lab_forms_streams::WriteFault;
 use lab_program_check::{Flaw, check};
-use lab_program_files::{Shelf, Trouble};
-use lab_program_outside::Host;
-use lab_wire_heads::WriteFault;
+use lab_program_files::{Trouble, Volume};
+use lab_program_host::Host;
 use std::io::{Read, Write};
 
 // Advises a person what a flaw is.
-fn advise_of<H: Shelf>(shelf: &mut H, flaw: Option<Flaw>) {
+fn advise_of<H: Volume>(volume: &mut H, flaw: Option<Flaw>) {
     if let Some(flaw) = flaw {
-        shelf.advise(Trouble::Flawed(flaw.word(), flaw.row()));
+        volume.advise(Trouble::Flawed(flaw.word(), flaw.row()));
     }
 }
 
@@ -22,7 +22,7 @@ fn advise_of<H: Shelf>(shelf: &mut H, flaw: Option<Flaw>) {
 ///
 /// # Errors
 /// The check stopped, and standard error failed before the whole line was told.
-pub fn check_for<N, H: Shelf, C, X, P, R: Read + Drop, W: Write, E: Write>(
+pub fn check_for<N, H: Volume, C, X, P, R: Read + Drop, W: Write, E: Write>(
     host: &mut Host<'_, N, H, C, X, P>,
     input: R,
     output: &mut W,
@@ -32,10 +32,10 @@ pub fn check_for<N, H: Shelf, C, X, P, R: Read + Drop, W: Write, E: Write>(
         (W.contents output.old) (W.contents output.new)
         (E.contents errors.old) (E.contents errors.new)) }
 {
-    host.shelf.advise(Trouble::CopyAwaited);
+    host.volume.advise(Trouble::CopyAwaited);
     match check(host.alloc, input, output, errors) {
         Ok(checked) => {
-            advise_of(&mut host.shelf, checked.flaw);
+            advise_of(&mut host.volume, checked.flaw);
             Ok(checked.status)
         }
         Err(untold) => Err(untold),

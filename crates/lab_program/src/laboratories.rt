@@ -4,17 +4,17 @@ ghost use Rattle.std.specs.Io.Take.{take_remaining};
 ghost use Rattle.std.specs.Prelude.{◌≡◌, ℕ, pos, List, IsTrue, Err, nat_le};
 ghost use Rattle.lab_forms_texts.specs.Moment.{is_moment};
 ghost use Rattle.lab_forms_texts.specs.Ordinals.{is_ordinal};
-ghost use Rattle.lab_program_outside.specs.Faults.{Tells};
-ghost use Rattle.lab_program_outside.specs.Sources.{drawing_of};
+ghost use Rattle.lab_program_host.specs.Faults.{Tells};
+ghost use Rattle.lab_program_host.specs.Sources.{drawing_of};
 ghost use Rattle.lab_program.specs.Laboratories.{IsCopied, IsCopiedIf, IsFounded, IsRehearsed, front_of};
 
+use lab_forms_streams::WriteFault;
 use lab_forms_texts::{LabCode, Moment, Ordinal};
 use lab_program_app::explain_order;
-use lab_program_files::{Closing, Progress, Shelf, Trouble, copy, found};
-use lab_program_outside::{Chance, Clock, Host, tell};
+use lab_program_files::{Closing, Progress, Trouble, Volume, copy, found};
+use lab_program_host::{Chance, Clock, Host, tell};
 use lab_program_replay::{LimitedReader, MOST_ASKS};
 use lab_program_serve::rehearse;
-use lab_wire_heads::WriteFault;
 use sqlite::Connection;
 use std::io::{Read, Take, Write};
 use std::net::Net;
@@ -44,7 +44,7 @@ fn decline<E: Write>(errors: &mut E, word: &str) -> Result<u8, WriteFault>
 ///
 /// # Errors
 /// A fault could not be told whole, as standard error failed.
-pub fn found_for<N, H: Shelf, C: Clock, X: Chance, P, R: Read + Drop, W: Write, E: Write>(
+pub fn found_for<N, H: Volume, C: Clock, X: Chance, P, R: Read + Drop, W: Write, E: Write>(
     host: &mut Host<'_, N, H, C, X, P>,
     file: &str,
     lab: &str,
@@ -54,7 +54,7 @@ pub fn found_for<N, H: Shelf, C: Clock, X: Chance, P, R: Read + Drop, W: Write, 
 ) -> Result<u8, WriteFault>
 where
     Connection<H::Disk>: Closing,
-    ensures { IsFounded H.Disk.Store (H.holds host.old.shelf file.now) (record {
+    ensures { IsFounded H.Disk.Store (H.holds host.old.volume file.now) (record {
       drawing = drawing_of (C.coming host.old.clock) (C.coming host.new.clock)
           (X.coming host.old.chance) (X.coming host.new.chance);
       code = lab.now;
@@ -71,7 +71,7 @@ where
         Ok(code) => code,
         Err(fault) => {
             let status = decline(errors, fault.word());
-            host.shelf.advise(Trouble::OfCode(lab));
+            host.volume.advise(Trouble::OfCode(lab));
             return status;
         }
     };
@@ -87,7 +87,7 @@ fn ordinal(number: u32) -> Ordinal
 }
 
 // A copy of the records of a range, of the laboratory of this text.
-fn copy_range<N, H: Shelf, C: Clock, X, P: Progress, W: Write, E: Write>(
+fn copy_range<N, H: Volume, C: Clock, X, P: Progress, W: Write, E: Write>(
     host: &mut Host<'_, N, H, C, X, P>,
     file: &str,
     lab: &str,
@@ -98,7 +98,7 @@ fn copy_range<N, H: Shelf, C: Clock, X, P: Progress, W: Write, E: Write>(
 ) -> Result<u8, WriteFault>
 where
     Connection<H::Disk>: Closing,
-    ensures { IsCopied H.Disk.Store (H.holds host.old.shelf file.now) (record {
+    ensures { IsCopied H.Disk.Store (H.holds host.old.volume file.now) (record {
       moments = C.coming host.old.clock;
       later = C.coming host.new.clock;
       code = lab.now;
@@ -116,7 +116,7 @@ where
         Ok(code) => code,
         Err(fault) => {
             let status = decline(errors, fault.word());
-            host.shelf.advise(Trouble::OfCode(lab));
+            host.volume.advise(Trouble::OfCode(lab));
             return status;
         }
     };
@@ -128,7 +128,7 @@ where
 ///
 /// # Errors
 /// A fault could not be told whole, as standard error failed.
-pub fn copy_for<N, H: Shelf, C: Clock, X, P: Progress, W: Write, E: Write>(
+pub fn copy_for<N, H: Volume, C: Clock, X, P: Progress, W: Write, E: Write>(
     host: &mut Host<'_, N, H, C, X, P>,
     file: &str,
     lab: &str,
@@ -140,7 +140,7 @@ pub fn copy_for<N, H: Shelf, C: Clock, X, P: Progress, W: Write, E: Write>(
 where
     Connection<H::Disk>: Closing,
     ensures { IsTrue (is_ordinal from) → IsTrue (is_ordinal to) →
-        IsCopiedIf H.Disk.Store (H.holds host.old.shelf file.now) (record {
+        IsCopiedIf H.Disk.Store (H.holds host.old.volume file.now) (record {
           moments = C.coming host.old.clock;
           later = C.coming host.new.clock;
           code = lab.now;
@@ -165,7 +165,7 @@ where
 ///
 /// # Errors
 /// A fault could not be told whole, as standard error failed.
-pub fn rehearse_for<N: Net, H: Shelf, C, X, P, R: Read + Drop, W: Write, E: Write>(
+pub fn rehearse_for<N: Net, H: Volume, C, X, P, R: Read + Drop, W: Write, E: Write>(
     host: &mut Host<'_, N, H, C, X, P>,
     lab: &str,
     seconds: i64,
@@ -190,11 +190,11 @@ pub fn rehearse_for<N: Net, H: Shelf, C, X, P, R: Read + Drop, W: Write, E: Writ
         Ok(code) => code,
         Err(fault) => {
             let status = decline(errors, fault.word());
-            host.shelf.advise(Trouble::OfCode(lab));
+            host.volume.advise(Trouble::OfCode(lab));
             return status;
         }
     };
-    host.shelf.advise(Trouble::FoundingAwaited);
+    host.volume.advise(Trouble::FoundingAwaited);
     let mut body = front_of(input);
     rehearse(host, &code, moment, &mut body, output, errors)
 }

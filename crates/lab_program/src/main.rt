@@ -8,7 +8,7 @@ mod laboratories;
 
 use command_line::labdesk;
 use lab_program_files::Host;
-use lab_program_machine::{HostShelf, Supposed, SystemChance, SystemClock, TerminalProgress};
+use lab_program_machine::{HostVolume, Supposed, SystemChance, SystemClock, TerminalProgress};
 use sqlite::Wary;
 use std::io::{self, ErrorKind, Write};
 use std::process::ExitCode;
@@ -32,7 +32,7 @@ fn status_of<S: Supposed>(rt: &HostRuntime, words: &[String], start: S) -> u8 {
     let mut host = Host {
         alloc: rt.alloc(),
         net: rt,
-        shelf: HostShelf::new(rt, start),
+        volume: HostVolume::new(rt, start),
         clock: SystemClock::new(rt),
         chance: SystemChance::new(rt),
         progress: TerminalProgress::new(rt),

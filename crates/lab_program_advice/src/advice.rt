@@ -2,10 +2,10 @@
 
 use crate::flaw_rows::write_of_flaw;
 use crate::spots::Spot;
-use lab_program_outside::{FoundFault, ServerFault};
-use lab_program_shelves::{FoundingFault, OpenFault, Trouble};
-use lab_records_kept::PlacingFault;
-use lab_records_walks::CopyOutFault;
+use lab_program_host::{FoundFault, ServerFault};
+use lab_program_opening::{FoundingFault, OpenFault, Trouble};
+use lab_records_copy_out::CopyOutFault;
+use lab_records_keeper::PlacingFault;
 use lab_store_files::FileFault;
 use std::fs::{self, File};
 use std::io::{self, ErrorKind, IsTerminal, Write};

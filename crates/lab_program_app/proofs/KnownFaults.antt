@@ -4,7 +4,7 @@ use Rattle.std.proofs.Common.{refl, sym, ap, inl, List, ℕ, Bool, false, Ok, Er
 use Rattle.std.specs.Prelude.{Option, Result, ◌==◌}
 use Rattle.std.specs.Io.KnownBytes.{Keeps}
 use Rattle.clap.specs.declared.error.kind.ErrorKind.TheVariants.{DisplayHelp, DisplayVersion, UnknownArgument}
-use Rattle.lab_wire_heads.specs.declared.sending.WriteFault.{WriteFault as Untold}
+use Rattle.lab_forms_streams.specs.declared.sending.WriteFault.{WriteFault as Untold}
 use Rattle.lab_program_app.specs.Explaining.{Explains}
 
 -- the status is 2

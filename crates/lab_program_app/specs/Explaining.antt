@@ -5,9 +5,9 @@ use Rattle.clap.specs.Words.{IsAmong, Kinds}
 use Rattle.clap.specs.declared.error.kind.ErrorKind.{ErrorKind}
 use Rattle.clap.specs.declared.error.kind.ErrorKind.TheVariants.{OutOfMemory, DisplayHelp, DisplayVersion}
 use Rattle.lab_forms_texts.specs.Faults.{memory_entry}
-use Rattle.lab_wire_heads.specs.declared.sending.WriteFault.{WriteFault as Untold}
-use Rattle.lab_program_outside.specs.Faults.{IsTold, server_fault_word, told_line}
-use Rattle.lab_program_outside.specs.declared.faults.ServerFault.TheVariants.{Write}
+use Rattle.lab_forms_streams.specs.declared.sending.WriteFault.{WriteFault as Untold}
+use Rattle.lab_program_host.specs.Faults.{IsTold, server_fault_word, told_line}
+use Rattle.lab_program_host.specs.declared.faults.ServerFault.TheVariants.{Write}
 
 -- the program stopped, and told this word of it: the status is 1
 abbrev pub Stopped : List ℕ → Option (List ℕ) → Option (List ℕ) → Result ℕ Untold → Type 0

@@ -8,8 +8,8 @@ ghost use Rattle.lab_program_app.specs.Explaining.{Explains, IsExplained};
 use crate::copy_command;
 use clap::error::ErrorKind;
 use clap::{Command, Error};
-use lab_program_outside::{ServerFault, tell};
-use lab_wire_heads::WriteFault;
+use lab_forms_streams::WriteFault;
+use lab_program_host::{ServerFault, tell};
 use std::alloc::{AllocError, Global};
 use std::io::Write;
 

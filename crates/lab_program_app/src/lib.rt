@@ -10,4 +10,4 @@ pub use commands::{
     serve_command,
 };
 pub use explaining::{explain, explain_order};
-pub use lab_wire_heads::WriteFault;
+pub use lab_forms_streams::WriteFault;

@@ -4,8 +4,8 @@
 use Rattle.std.specs.Prelude.{◌≡◌, ◌<◌, ℕ, List, ◌++◌, [], length, take, codes, decimal, Option, Some, None, Result, Ok, Err}
 use Rattle.std.specs.Io.KnownBytes.{Keeps, Appends}
 use Rattle.lab_forms_texts.specs.Faults.{memory_entry}
-use Rattle.lab_wire_heads.specs.Sending.{read_fault_word, write_fault_word}
-use Rattle.lab_wire_heads.specs.declared.sending.WriteFault.{WriteFault as Untold}
+use Rattle.lab_forms_streams.specs.Sending.{read_fault_word, write_fault_word}
+use Rattle.lab_forms_streams.specs.declared.sending.WriteFault.{WriteFault as Untold}
 use Rattle.lab_copy_rows.specs.Flaws.{flaw_entry, flaw_row}
 use Rattle.lab_copy_rows.specs.declared.flaws.Flaw.{Flaw}
 use Rattle.lab_copy_rows.specs.declared.lines.Counts.{Counts}

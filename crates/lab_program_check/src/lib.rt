@@ -6,5 +6,5 @@ mod verdicts;
 
 pub use faults::StopFault;
 pub use lab_copy::Flaw;
-pub use lab_wire_heads::WriteFault;
+pub use lab_forms_streams::WriteFault;
 pub use verdicts::{Checked, check};

@@ -7,7 +7,7 @@ ghost use Rattle.lab_program_check.specs.Verdicts.{good_line, bad_line, status_o
 
 use crate::faults::StopFault;
 use lab_copy::{CheckFault, Counts, Flaw, OutOfMemory, check_copy};
-use lab_wire_heads::{WriteFault, write_reply};
+use lab_forms_streams::{WriteFault, write_whole};
 use std::alloc::Global;
 use std::io::{Read, Write};
 
@@ -87,7 +87,7 @@ fn tell_found<R: Read + Drop, W: Write>(
         IsFlaw (verdict (rows_of bytes)) checked.flaw)) }
 {
     let found = look_over(alloc, input)?;
-    match write_reply(output, found.line.as_bytes()) {
+    match write_whole(output, found.line.as_bytes()) {
         Ok(()) => Ok(Checked {
             status: found.status,
             flaw: found.flaw,
@@ -119,7 +119,7 @@ pub fn check<R: Read + Drop, W: Write, E: Write>(
     match tell_found(alloc, input, output) {
         Ok(checked) => Ok(checked),
         Err(fault) => {
-            write_reply(errors, fault.line().as_bytes())?;
+            write_whole(errors, fault.line().as_bytes())?;
             Ok(Checked {
                 status: 1,
                 flaw: None,

@@ -3,18 +3,18 @@ use Rattle.std.proofs.Common.{◌≡◌, ℕ, List, Option, None, Some, refl, su
 use Rattle.std.specs.Prelude.{Err, IfErr, IfSome, Ok, Result}
 use Rattle.std.specs.Io.KnownBytes.{Keeps}
 use Rattle.lab_forms_texts.specs.declared.tick.Tick.{Tick}
-use Rattle.lab_records_kept.specs.declared.keeper.Keeper.{Ghosts}
-use Rattle.lab_records_kept.specs.Worlds.{Given, IsDurable, Lives}
+use Rattle.lab_records_keeper.specs.declared.keeper.Keeper.{Ghosts}
+use Rattle.lab_records_keeper.specs.Worlds.{Given, IsDurable, Lives}
 use Rattle.lab_desk_foundings.specs.declared.faults.FoundFault.{FoundFault}
 use Rattle.lab_desk_foundings.specs.Foundings.{Founds, founding_in}
-use Rattle.lab_desk_runs.specs.Keeping.{Stays}
-use Rattle.lab_program_outside.specs.declared.faults.ServerFault.{ServerFault}
-use Rattle.lab_program_outside.specs.declared.faults.ServerFault.TheVariants.{Memory, Read, Write}
-use Rattle.lab_program_outside.specs.Faults.{IsReaderFault}
-use Rattle.lab_program_outside.proofs.ReadLemmas.{for_known, known_as}
-use Rattle.lab_program_outside.specs.declared.faults.RehearsalFault.{RehearsalFault as FoundingFault}
-use Rattle.lab_program_outside.specs.declared.faults.RehearsalFault.TheVariants.{Founding, Server}
-use Rattle.lab_program_outside.specs.Sources.{Drawing, IsDrawn, drawing_of}
+use Rattle.lab_desk_events.specs.Keeping.{Stays}
+use Rattle.lab_program_host.specs.declared.faults.ServerFault.{ServerFault}
+use Rattle.lab_program_host.specs.declared.faults.ServerFault.TheVariants.{Memory, Read, Write}
+use Rattle.lab_program_host.specs.Faults.{IsReaderFault}
+use Rattle.lab_program_host.proofs.ReadLemmas.{for_known, known_as}
+use Rattle.lab_program_host.specs.declared.faults.RehearsalFault.{RehearsalFault as FoundingFault}
+use Rattle.lab_program_host.specs.declared.faults.RehearsalFault.TheVariants.{Founding, Server}
+use Rattle.lab_program_host.specs.Sources.{Drawing, IsDrawn, drawing_of}
 use Rattle.lab_program_files.specs.Foundings.{Ends, EndsFounding, FoundTask, IsFounded, IsRefusedAt, Prints}
 
 -- ---- what is printed

@@ -17,7 +17,7 @@ use Rattle.sqlite.specs.State.{HasCleanDisk, State}
 use Rattle.sqlite.proofs.Theorems.{next_run}
 use Rattle.lab_records_kept.specs.declared.labs.Lab.{Lab}
 use Rattle.lab_records_kept.specs.Limits.{IsWithin}
-use Rattle.lab_records_kept.specs.Worlds.{Meaning, Passes, SameMeaning}
+use Rattle.lab_records_keeper.specs.Worlds.{Meaning, Passes, SameMeaning}
 use Rattle.lab_records_laws.specs.Runs.{IsReleasing}
 use Rattle.lab_records_laws.specs.Stepping.{WhereThere}
 use Rattle.lab_store_tables.specs.Meaning.{meaning}
@@ -28,12 +28,12 @@ use Rattle.lab_store_tables.specs.WellKept.{IsWellKept}
 use Rattle.lab_store_tables.proofs.Tests.{kept_by_tests}
 use Rattle.lab_store_files.specs.NewFiles.{IsNewFile, new_tables}
 use Rattle.lab_store_files.specs.Schemas.{is_taken as is_named}
-use Rattle.lab_desk_runs.specs.Keeping.{GivenWithin, LeavesOnly, OfAll}
-use Rattle.lab_desk_runs.specs.Runs.{Handled}
-use Rattle.lab_desk_runs.specs.Starts.{AreStarts, Start, left_by}
-use Rattle.lab_desk_runs.proofs.Leaving.{same_then}
-use Rattle.lab_desk_runs.proofs.Starting.{starts_alone}
-use Rattle.lab_program_shelves.specs.Files.{AreHeldIn, IsFound, IsOpened, IsOursFrom, LeavesShown}
+use Rattle.lab_desk_events.specs.Keeping.{GivenWithin, LeavesOnly, OfAll}
+use Rattle.lab_desk_events.specs.Runs.{Handled}
+use Rattle.lab_desk_events.specs.Starts.{AreStarts, Start, left_by}
+use Rattle.lab_desk_events.proofs.Leaving.{same_then}
+use Rattle.lab_desk_events.proofs.Starting.{starts_alone}
+use Rattle.lab_program_opening.specs.Files.{AreHeldIn, IsFound, IsOpened, IsOursFrom, LeavesShown}
 use Rattle.lab_program_files.specs.FileWorlds.{file_world}
 use Rattle.lab_program_files.specs.Histories.{AreDone, AreEventsOf, AreStartsOf, Begins, Copied, Does, Founded, GoesOnAlone, IsDone, IsHistory, IsStartOf, IsTaskRun, Moved, Refused, Reopens, Served, Task, Work, founding_refused, last_of, world_left, world_opened}
 use Rattle.lab_program_files.specs.Starts.{IsRunOver, founding_answered, start_of}

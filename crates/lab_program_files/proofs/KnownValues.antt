@@ -1,9 +1,9 @@
 -- Values from outside, computed on the definitions: small instances of what a founding printed and of a tick that was drawn.
 use Rattle.std.proofs.Common.{codes, lit<, refl, ap, ℕ, List, [], ◌∷◌, true≢false, Some, Ok, Err}
 use Rattle.std.specs.Str.{bytes_eq}
-use Rattle.lab_program_outside.specs.declared.faults.ServerFault.TheVariants.{Write, Memory}
-use Rattle.lab_program_outside.specs.declared.faults.RehearsalFault.TheVariants.{Server}
-use Rattle.lab_program_outside.specs.Sources.{IsDrawn, drawing_of}
+use Rattle.lab_program_host.specs.declared.faults.ServerFault.TheVariants.{Write, Memory}
+use Rattle.lab_program_host.specs.declared.faults.RehearsalFault.TheVariants.{Server}
+use Rattle.lab_program_host.specs.Sources.{IsDrawn, drawing_of}
 use Rattle.lab_program_files.specs.Foundings.{Prints}
 
 -- the whole line, or a part where the output failed; where memory ran out, nothing

@@ -11,8 +11,8 @@ use Rattle.sqlite_wal.specs.Recovery.{Image}
 use Rattle.sqlite.specs.Effect.{Database}
 use Rattle.sqlite.specs.Held.{Held, state}
 use Rattle.sqlite.specs.State.{HasCleanDisk, State}
-use Rattle.lab_records_kept.specs.declared.faults.PlacingFault.TheVariants.{LabExists, Storage as NotStored, Memory as NoMemory}
-use Rattle.lab_records_kept.specs.Worlds.{Given, Leaves, Meaning, Passes, SameMeaning, World}
+use Rattle.lab_records_keeper.specs.declared.faults.PlacingFault.TheVariants.{LabExists, Storage as NotStored, Memory as NoMemory}
+use Rattle.lab_records_keeper.specs.Worlds.{Given, Leaves, Meaning, Passes, SameMeaning, World}
 use Rattle.lab_store_tables.specs.Meaning.{meaning}
 use Rattle.lab_store_tables.specs.Rows.{tables_in}
 use Rattle.lab_store_files.specs.NewFiles.{IsBlank, no_schema}
@@ -20,21 +20,21 @@ use Rattle.lab_store_files.specs.declared.faults.FileFault.{FileFault}
 use Rattle.lab_store_files.specs.declared.faults.FileFault.TheVariants.{Memory, NotADeskFile, Storage}
 use Rattle.lab_store_files.specs.Verdicts.{Answers, file_verdict, number_shown, number_verdict, shown_verdict, whole_verdict}
 use Rattle.lab_forms_texts.specs.declared.tick.Tick.{Tick}
-use Rattle.lab_records_walks.specs.Resting.{IsRead}
+use Rattle.lab_records_copy_out.specs.Resting.{IsRead}
 use Rattle.lab_desk_foundings.proofs.Bearing.{takes_founded, takes_refused}
 use Rattle.lab_desk_foundings.specs.declared.faults.FoundFault.{FoundFault}
 use Rattle.lab_desk_foundings.specs.declared.faults.FoundFault.TheVariants.{Body as OfBody, Birth as OfBirth, Placing}
 use Rattle.lab_desk_foundings.specs.Faults.{FoundFaultFits, found_fault_entry, is_taken}
 use Rattle.lab_desk_foundings.specs.Foundings.{Body, RefusesFounding, TakesFounding, founded_line, founding_in, refused_line}
-use Rattle.lab_desk_runs.specs.declared.events.Event.TheVariants.{Found}
-use Rattle.lab_desk_runs.specs.Alone.{Founding, Happening}
-use Rattle.lab_desk_runs.specs.Keeping.{AreWithin, GivenWithin}
-use Rattle.lab_desk_runs.specs.Leaving.{IsLeftBy, LeavesRun, as_told}
-use Rattle.lab_desk_runs.specs.Runs.{Handled, IsRun}
-use Rattle.lab_desk_runs.proofs.Leaving.{found_leaves, left_then, settles_refused}
-use Rattle.lab_desk_runs.proofs.Running.{no_run, one_founding, still_run}
-use Rattle.lab_desk_runs.specs.Starts.{AreStarts, IsAnswered, IsStopped, Start, left_by}
-use Rattle.lab_program_shelves.specs.Files.{AreHeldIn, IsFound, IsNew, IsOpened, IsOurs, LeavesShown}
+use Rattle.lab_desk_events.specs.declared.events.Event.TheVariants.{Found}
+use Rattle.lab_desk_events.specs.Alone.{Founding, Happening}
+use Rattle.lab_desk_events.specs.Keeping.{AreWithin, GivenWithin}
+use Rattle.lab_desk_events.specs.Leaving.{IsLeftBy, LeavesRun, as_told}
+use Rattle.lab_desk_events.specs.Runs.{Handled, IsRun}
+use Rattle.lab_desk_events.proofs.Leaving.{found_leaves, left_then, settles_refused}
+use Rattle.lab_desk_events.proofs.Running.{no_run, one_founding, still_run}
+use Rattle.lab_desk_events.specs.Starts.{AreStarts, IsAnswered, IsStopped, Start, left_by}
+use Rattle.lab_program_opening.specs.Files.{AreHeldIn, IsFound, IsNew, IsOpened, IsOurs, LeavesShown}
 use Rattle.lab_program_serve.specs.Visits.{AreVisits, GoesOn, Visit}
 use Rattle.lab_program_serve.proofs.RunLemmas.{served_run}
 use Rattle.lab_program_files.specs.FileWorlds.{file_keeper, file_rests, file_world}

@@ -1,17 +1,17 @@
 -- The inspection copy of a laboratory of a file (21 CFR 11.10(b); docs/COPIES.md has its text).
 use Rattle.std.specs.Prelude.{◌≡◌, ℕ, List, [], ◌∷◌, Option, None, Result, IfErr, IfOk, IsSome}
 use Rattle.std.specs.Io.KnownBytes.{Keeps}
-use Rattle.lab_records_kept.specs.declared.keeper.Keeper.{Ghosts}
-use Rattle.lab_records_kept.specs.Worlds.{Given}
-use Rattle.lab_program_outside.specs.Sources.{Gives}
-use Rattle.lab_program_outside.specs.TaskEnds.{TaskEnd}
+use Rattle.lab_records_keeper.specs.declared.keeper.Keeper.{Ghosts}
+use Rattle.lab_records_keeper.specs.Worlds.{Given}
+use Rattle.lab_program_host.specs.Sources.{Gives}
+use Rattle.lab_program_host.specs.TaskEnds.{TaskEnd}
 use Rattle.lab_copy_rows.specs.Outs.{Sends}
-use Rattle.lab_records_walks.specs.declared.faults.CopyOutFault.{CopyOutFault}
-use Rattle.lab_records_walks.specs.Faults.{CopyFaultFits, copy_fault_word}
-use Rattle.lab_records_walks.specs.Resting.{IsRead}
-use Rattle.lab_records_walks.specs.Walks.{CanWalk, copy_text, desk_order}
-use Rattle.lab_program_shelves.specs.declared.faults.OpenFault.{OpenFault}
-use Rattle.lab_program_shelves.specs.Faults.{TellsTask}
+use Rattle.lab_records_copy_out.specs.declared.faults.CopyOutFault.{CopyOutFault}
+use Rattle.lab_records_copy_out.specs.Faults.{CopyFaultFits, copy_fault_word}
+use Rattle.lab_records_copy_out.specs.Resting.{IsRead}
+use Rattle.lab_records_copy_out.specs.Walks.{CanWalk, copy_text, desk_order}
+use Rattle.lab_program_opening.specs.declared.faults.OpenFault.{OpenFault}
+use Rattle.lab_program_opening.specs.Faults.{TellsTask}
 
 -- what the task `copy` is given
 pub record CopyTask : Type 0 where

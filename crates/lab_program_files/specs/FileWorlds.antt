@@ -2,11 +2,11 @@
 -- as a keeper's (21 CFR 11.10(c); ISO/IEC 17025:2017, 7.11.3).
 use Rattle.std.specs.Prelude.{◌≡◌, ℕ, List}
 use Rattle.sqlite_trees.specs.declared.store.Store.{Ghosts}
-use Rattle.lab_records_kept.specs.declared.keeper.Keeper.{Ghosts as KeeperOf}
+use Rattle.lab_records_keeper.specs.declared.keeper.Keeper.{Ghosts as KeeperOf}
 use Rattle.sqlite.specs.Held.{Held, state}
 use Rattle.lab_records_kept.specs.declared.labs.Lab.{Lab}
 use Rattle.lab_records_kept.specs.declared.changes.Change.{Change}
-use Rattle.lab_records_kept.specs.Worlds.{World}
+use Rattle.lab_records_keeper.specs.Worlds.{World}
 use Rattle.lab_store_tables.specs.Ready.{tables_of}
 use Rattle.lab_store_tables.specs.Placing.{PlacesLab}
 use Rattle.lab_store_laws.specs.Steps.{AreMadeIfAny}

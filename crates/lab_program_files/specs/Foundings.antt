@@ -3,20 +3,20 @@
 use Rattle.std.specs.Prelude.{◌≡◌, ◌<◌, ℕ, List, Option, Result, Ok, Err, IfErr, IfOk, IfSome, IsSome, length, take}
 use Rattle.std.specs.Io.KnownBytes.{Appends, Keeps}
 use Rattle.lab_forms_texts.specs.declared.tick.Tick.{Tick}
-use Rattle.lab_records_kept.specs.declared.keeper.Keeper.{Ghosts}
-use Rattle.lab_records_kept.specs.Worlds.{CommitsAs, Given, IsDurable, Leaves, Lives, Passes, Quiet}
+use Rattle.lab_records_keeper.specs.declared.keeper.Keeper.{Ghosts}
+use Rattle.lab_records_keeper.specs.Worlds.{CommitsAs, Given, IsDurable, Leaves, Lives, Passes, Quiet}
 use Rattle.lab_desk_foundings.specs.declared.faults.FoundFault.{FoundFault}
 use Rattle.lab_desk_foundings.specs.Faults.{FoundFaultFits, OnBody, OnKept, OnUncommitted}
 use Rattle.lab_desk_foundings.specs.Foundings.{Births, Body, Founds, founded_line, founding_in}
-use Rattle.lab_desk_runs.specs.Keeping.{Stays}
-use Rattle.lab_program_outside.specs.Sources.{Drawing, IsDrawn}
-use Rattle.lab_program_outside.specs.TaskEnds.{TaskEnd}
-use Rattle.lab_program_outside.specs.Faults.{rehearsal_fault_word}
-use Rattle.lab_program_outside.specs.declared.faults.ServerFault.TheVariants.{Read, Write, Memory}
-use Rattle.lab_program_outside.specs.declared.faults.RehearsalFault.{RehearsalFault as FoundingFault}
-use Rattle.lab_program_outside.specs.declared.faults.RehearsalFault.TheVariants.{Founding, Server}
-use Rattle.lab_program_shelves.specs.declared.faults.OpenFault.{OpenFault}
-use Rattle.lab_program_shelves.specs.Faults.{TellsTask}
+use Rattle.lab_desk_events.specs.Keeping.{Stays}
+use Rattle.lab_program_host.specs.Sources.{Drawing, IsDrawn}
+use Rattle.lab_program_host.specs.TaskEnds.{TaskEnd}
+use Rattle.lab_program_host.specs.Faults.{rehearsal_fault_word}
+use Rattle.lab_program_host.specs.declared.faults.ServerFault.TheVariants.{Read, Write, Memory}
+use Rattle.lab_program_host.specs.declared.faults.RehearsalFault.{RehearsalFault as FoundingFault}
+use Rattle.lab_program_host.specs.declared.faults.RehearsalFault.TheVariants.{Founding, Server}
+use Rattle.lab_program_opening.specs.declared.faults.OpenFault.{OpenFault}
+use Rattle.lab_program_opening.specs.Faults.{TellsTask}
 
 -- ---- what was printed
 

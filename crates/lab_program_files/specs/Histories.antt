@@ -13,18 +13,18 @@ use Rattle.sqlite.specs.Held.{Held, IsConnected}
 use Rattle.sqlite.specs.State.{HasCleanDisk}
 use Rattle.lab_forms_texts.specs.declared.tick.Tick.{Tick}
 use Rattle.lab_records_kept.specs.Limits.{IsWithin}
-use Rattle.lab_records_kept.specs.Worlds.{Meaning, Passes, SameMeaning, World}
+use Rattle.lab_records_keeper.specs.Worlds.{Meaning, Passes, SameMeaning, World}
 use Rattle.lab_records_laws.specs.Runs.{IsReleasing}
-use Rattle.lab_records_walks.specs.Resting.{IsRead}
+use Rattle.lab_records_copy_out.specs.Resting.{IsRead}
 use Rattle.lab_store_tables.specs.Schema.{lab_schema}
 use Rattle.lab_desk_foundings.specs.declared.faults.FoundFault.{FoundFault}
 use Rattle.lab_desk_foundings.specs.Faults.{found_fault_entry, is_taken}
 use Rattle.lab_desk_foundings.specs.Foundings.{founding_in, refused_line}
-use Rattle.lab_desk_runs.specs.Alone.{Founding}
-use Rattle.lab_desk_runs.specs.Keeping.{GivenWithin, OfAll}
-use Rattle.lab_desk_runs.specs.Runs.{Handled, IsAnswer, IsTold}
-use Rattle.lab_desk_runs.specs.Starts.{AreMadeAt, Start, answers_at, machine_after, machine_at}
-use Rattle.lab_program_shelves.specs.Files.{AreHeldIn, Finds, IsNewFrom, IsOursFrom, LeavesShown}
+use Rattle.lab_desk_events.specs.Alone.{Founding}
+use Rattle.lab_desk_events.specs.Keeping.{GivenWithin, OfAll}
+use Rattle.lab_desk_events.specs.Runs.{Handled, IsAnswer, IsTold}
+use Rattle.lab_desk_events.specs.Starts.{AreMadeAt, Start, answers_at, machine_after, machine_at}
+use Rattle.lab_program_opening.specs.Files.{AreHeldIn, Finds, IsNewFrom, IsOursFrom, LeavesShown}
 use Rattle.lab_program_serve.specs.Runs.{AreBrought}
 use Rattle.lab_program_serve.specs.Visits.{AreVisits, GoesOn, Visit}
 use Rattle.lab_program_files.specs.FileWorlds.{file_keeper, file_rests, file_world}

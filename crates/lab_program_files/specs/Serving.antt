@@ -1,14 +1,14 @@
 -- Serving the laboratories of a file.
 use Rattle.std.specs.Prelude.{◌⊎◌, ℕ, Some}
 use Rattle.std.specs.Io.KnownBytes.{Keeps}
-use Rattle.lab_records_kept.specs.declared.keeper.Keeper.{Ghosts}
+use Rattle.lab_records_keeper.specs.declared.keeper.Keeper.{Ghosts}
 use Rattle.lab_desk.specs.Desk.{Served}
-use Rattle.lab_program_outside.specs.Sources.{Drawing}
+use Rattle.lab_program_host.specs.Sources.{Drawing}
 use Rattle.lab_program_serve.specs.ServeTask.{IsServing}
-use Rattle.lab_program_outside.specs.TaskEnds.{TaskEnd}
-use Rattle.lab_wire_heads.specs.Sending.{read_fault_word}
-use Rattle.lab_program_shelves.specs.declared.faults.OpenFault.{OpenFault}
-use Rattle.lab_program_shelves.specs.Faults.{Declines, TellsWord}
+use Rattle.lab_program_host.specs.TaskEnds.{TaskEnd}
+use Rattle.lab_forms_streams.specs.Sending.{read_fault_word}
+use Rattle.lab_program_opening.specs.declared.faults.OpenFault.{OpenFault}
+use Rattle.lab_program_opening.specs.Faults.{Declines, TellsWord}
 
 module _ {S : Type 0} (keeper : Ghosts S) (found opened : S → Type 0) (drawing : Drawing)
     (count : ℕ) (end : TaskEnd) where

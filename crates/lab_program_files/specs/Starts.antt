@@ -5,12 +5,12 @@ use Rattle.std.specs.Prelude.{ℕ, List, map, true}
 use Rattle.sqlite_trees.specs.declared.store.Store.{Ghosts}
 use Rattle.sqlite.specs.Held.{Held}
 use Rattle.lab_forms_texts.specs.declared.tick.Tick.{Tick}
-use Rattle.lab_records_kept.specs.Worlds.{Meaning, Passes, SameMeaning}
+use Rattle.lab_records_keeper.specs.Worlds.{Meaning, Passes, SameMeaning}
 use Rattle.lab_desk_foundings.specs.Foundings.{founded_line}
-use Rattle.lab_desk_runs.specs.Alone.{Founding}
-use Rattle.lab_desk_runs.specs.Leaving.{LeavesRun}
-use Rattle.lab_desk_runs.specs.Runs.{Handled, IsRun}
-use Rattle.lab_desk_runs.specs.Starts.{AreStarts, Start, left_by}
+use Rattle.lab_desk_events.specs.Alone.{Founding}
+use Rattle.lab_desk_events.specs.Leaving.{LeavesRun}
+use Rattle.lab_desk_events.specs.Runs.{Handled, IsRun}
+use Rattle.lab_desk_events.specs.Starts.{AreStarts, Start, left_by}
 use Rattle.lab_program_serve.specs.Runs.{AreBrought}
 use Rattle.lab_program_serve.specs.Visits.{Visit}
 use Rattle.lab_program_files.specs.FileWorlds.{file_world}

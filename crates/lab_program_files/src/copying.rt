@@ -4,23 +4,23 @@ ghost use Rattle.std.specs.Prelude.{IfErr, IfOk};
 ghost use Rattle.std.specs.Io.KnownBytes.{Keeps};
 ghost use Rattle.lab_program_files.specs.Copying.{Copies, IsCopying};
 ghost use Rattle.lab_program_files.specs.FileWorlds.{file_keeper};
-ghost use Rattle.lab_program_shelves.specs.Files.{IsOurs};
+ghost use Rattle.lab_program_opening.specs.Files.{IsOurs};
 
 use crate::leaving::leave;
+use lab_forms_streams::WriteFault;
 use lab_forms_texts::{LabCode, Ordinal};
-use lab_program_outside::{Clock, Host};
-use lab_program_shelves::{
-    Closing, OpenFault, Shelf, Trouble, decline, decline_to_open, open_file,
+use lab_program_host::{Clock, Host};
+use lab_program_opening::{
+    Closing, OpenFault, Trouble, Volume, decline, decline_to_open, open_file,
 };
-use lab_records_walks::{CopyOutFault, Progress, copy_out};
+use lab_records_copy_out::{CopyOutFault, Progress, copy_out};
 use lab_store::{OneVersionAtATime, Store};
-use lab_wire_heads::WriteFault;
 use sqlite::Connection;
 use std::io::Write;
 
 // Copies the records of a laboratory of the file at the path, as of a moment of the clock. Answers
 // how the copy ended, where one was begun.
-fn copy_file<N, H: Shelf, C: Clock, X, P: Progress, W: Write>(
+fn copy_file<N, H: Volume, C: Clock, X, P: Progress, W: Write>(
     host: &mut Host<'_, N, H, C, X, P>,
     path: &str,
     lab: &LabCode,
@@ -36,11 +36,11 @@ where
       code = lab.now;
       from = from;
       to = to;
-    }) (IsOurs H.Disk.Store (H.holds host.old.shelf path.now))
+    }) (IsOurs H.Disk.Store (H.holds host.old.volume path.now))
         (W.contents output.old) (W.contents output.new)) }
     ensures unbegun { IfErr result (λ _. Keeps (W.contents output.old) (W.contents output.new)) }
 {
-    let conn = open_file(host.alloc, &mut host.shelf, path)?;
+    let conn = open_file(host.alloc, &mut host.volume, path)?;
     let Ok(moment) = host.clock.moment() else {
         return Err(OpenFault::Drawing);
     };
@@ -67,7 +67,7 @@ where
 ///
 /// # Errors
 /// It stopped, and standard error failed before the whole line was told.
-pub fn copy<N, H: Shelf, C: Clock, X, P: Progress, W: Write, E: Write>(
+pub fn copy<N, H: Volume, C: Clock, X, P: Progress, W: Write, E: Write>(
     host: &mut Host<'_, N, H, C, X, P>,
     path: &str,
     lab: &LabCode,
@@ -84,7 +84,7 @@ where
       code = lab.now;
       from = from;
       to = to;
-    }) (IsOurs H.Disk.Store (H.holds host.old.shelf path.now)) (record {
+    }) (IsOurs H.Disk.Store (H.holds host.old.volume path.now)) (record {
       before = W.contents output.old;
       after = W.contents output.new;
       told_before = E.contents errors.old;
@@ -96,8 +96,8 @@ where
         Ok(Ok(())) => Ok(0),
         Ok(Err(fault)) => {
             let trouble = Trouble::Copying(path, fault);
-            decline(&mut host.shelf, errors, fault.word(), trouble)
+            decline(&mut host.volume, errors, fault.word(), trouble)
         }
-        Err(fault) => decline_to_open(host.alloc, &mut host.shelf, errors, path, fault),
+        Err(fault) => decline_to_open(host.alloc, &mut host.volume, errors, path, fault),
     }
 }

@@ -2,25 +2,25 @@
 
 ghost use Rattle.lab_desk_foundings.specs.Foundings.{founded_line};
 ghost use Rattle.lab_program_files.specs.FileWorlds.{file_keeper};
-ghost use Rattle.lab_program_shelves.specs.Files.{IsOpened};
+ghost use Rattle.lab_program_opening.specs.Files.{IsOpened};
 ghost use Rattle.lab_program_files.specs.Foundings.{Ends, EndsOver, IsFounding, Prints};
-ghost use Rattle.lab_program_outside.specs.Faults.{IsReaderFault};
-ghost use Rattle.lab_program_outside.specs.Sources.{IsDrawn, drawing_of};
+ghost use Rattle.lab_program_host.specs.Faults.{IsReaderFault};
+ghost use Rattle.lab_program_host.specs.Sources.{IsDrawn, drawing_of};
 ghost use Rattle.std.specs.Io.KnownBytes.{Keeps};
 ghost use Rattle.std.specs.Prelude.{◌≡◌, IfErr, IfOk, IfSome};
-ghost use Rattle.lab_records_kept.specs.Worlds.{Passes};
-ghost use Rattle.lab_program_outside.specs.declared.faults.ServerFault.TheVariants.{Write as NotWritten};
-ghost use Rattle.lab_program_outside.specs.declared.faults.RehearsalFault.TheVariants.{Server as OfServer};
+ghost use Rattle.lab_records_keeper.specs.Worlds.{Passes};
+ghost use Rattle.lab_program_host.specs.declared.faults.ServerFault.TheVariants.{Write as NotWritten};
+ghost use Rattle.lab_program_host.specs.declared.faults.RehearsalFault.TheVariants.{Server as OfServer};
 
 use crate::leaving::leave;
+use lab_forms_streams::{WriteFault, write_whole};
 use lab_forms_texts::{LabCode, OutOfMemory, Tick};
-use lab_program_outside::{Chance, Clock, FoundFault, Host, ServerFault, draw, read_all};
-use lab_program_serve::{Desk, Keeper};
-use lab_program_shelves::{
-    Closing, FoundingFault, OpenFault, Shelf, Trouble, decline, decline_to_open, make_file,
+use lab_program_host::{Chance, Clock, FoundFault, Host, ServerFault, draw, read_all};
+use lab_program_opening::{
+    Closing, FoundingFault, OpenFault, Trouble, Volume, decline, decline_to_open, make_file,
 };
+use lab_program_serve::{Desk, Keeper};
 use lab_store::Store;
-use lab_wire_heads::{WriteFault, write_reply};
 use sqlite::Connection;
 use std::alloc::Global;
 use std::io::{Read, Write};
@@ -69,23 +69,23 @@ fn print<W: Write>(output: &mut W, line: &[u8]) -> Result<(), FoundingFault>
     ensures printed { Prints line.now result (W.contents output.old) (W.contents output.new) }
     ensures fault { IfErr result (λ fault. fault ≡ OfServer NotWritten) }
 {
-    match write_reply(output, line) {
+    match write_whole(output, line) {
         Ok(()) => Ok(()),
         Err(_) => Err(FoundingFault::Server(ServerFault::Write)),
     }
 }
 
 // What became of a founding. Bytes from which none is born are noted, so that a person can be advised.
-fn founding_noted<H: Shelf>(
+fn founding_noted<H: Volume>(
     alloc: Global,
-    shelf: &mut H,
+    volume: &mut H,
     body: &[u8],
     founded: Result<(), FoundFault>,
 ) -> Result<(), FoundFault>
     ensures { result ≡ founded }
 {
     if let Err(FoundFault::Body(_) | FoundFault::Birth(_)) = founded {
-        shelf.note(alloc, body);
+        volume.note(alloc, body);
     }
     founded
 }
@@ -96,7 +96,7 @@ fn founding_noted<H: Shelf>(
 /// # Errors
 /// Those of the founding; the body, the clock or the source of random words failed, or memory ran
 /// out before: nothing was done. Where the output failed, the laboratory is founded all the same.
-pub fn found_over<N, H: Shelf, C: Clock, X: Chance, P, S: Keeper + Drop, B: Read, W: Write>(
+pub fn found_over<N, H: Volume, C: Clock, X: Chance, P, S: Keeper + Drop, B: Read, W: Write>(
     host: &mut Host<'_, N, H, C, X, P>,
     desk: &mut Desk<S>,
     lab: &LabCode,
@@ -113,12 +113,12 @@ pub fn found_over<N, H: Shelf, C: Clock, X: Chance, P, S: Keeper + Drop, B: Read
         (W.contents output.old) (W.contents output.new) }
     ensures passes { Passes (S.world desk.old.keeper) (S.world desk.new.keeper) }
 {
-    host.shelf.advise(Trouble::FoundingAwaited);
+    host.volume.advise(Trouble::FoundingAwaited);
     let intake = intake_of(host, lab, body)?;
     let founded = desk.found(lab, &intake.tick, intake.bytes.as_slice());
     founding_noted(
         host.alloc,
-        &mut host.shelf,
+        &mut host.volume,
         intake.bytes.as_slice(),
         founded,
     )?;
@@ -126,7 +126,7 @@ pub fn found_over<N, H: Shelf, C: Clock, X: Chance, P, S: Keeper + Drop, B: Read
 }
 
 // Founds a laboratory in the file at the path. Answers how the founding ended, where one was begun.
-fn found_in_file<N, H: Shelf, C: Clock, X: Chance, P, B: Read, W: Write>(
+fn found_in_file<N, H: Volume, C: Clock, X: Chance, P, B: Read, W: Write>(
     host: &mut Host<'_, N, H, C, X, P>,
     path: &str,
     lab: &LabCode,
@@ -140,12 +140,12 @@ where
           (X.coming host.old.chance) (X.coming host.new.chance);
       code = lab.now;
       body = B.remaining body.old;
-    }) (IsOpened H.Disk.Store (H.holds host.old.shelf path.now))) }
+    }) (IsOpened H.Disk.Store (H.holds host.old.volume path.now))) }
     ensures prints { IfOk result (λ ending. Prints (founded_line lab.now) ending
         (W.contents output.old) (W.contents output.new)) }
     ensures unbegun { IfErr result (λ _. Keeps (W.contents output.old) (W.contents output.new)) }
 {
-    let conn = make_file(host.alloc, &mut host.shelf, path)?;
+    let conn = make_file(host.alloc, &mut host.volume, path)?;
     let Ok(mut desk) = Desk::new(host.alloc, Store::new(host.alloc, conn)) else {
         return Ok(Err(FoundingFault::Server(ServerFault::Memory)));
     };
@@ -161,7 +161,7 @@ where
 ///
 /// # Errors
 /// It failed, and standard error failed before the whole line was told.
-pub fn found<N, H: Shelf, C: Clock, X: Chance, P, B: Read, W: Write, E: Write>(
+pub fn found<N, H: Volume, C: Clock, X: Chance, P, B: Read, W: Write, E: Write>(
     host: &mut Host<'_, N, H, C, X, P>,
     path: &str,
     lab: &LabCode,
@@ -176,7 +176,7 @@ where
           (X.coming host.old.chance) (X.coming host.new.chance);
       code = lab.now;
       body = B.remaining body.old;
-    }) (IsOpened H.Disk.Store (H.holds host.old.shelf path.now)) (record {
+    }) (IsOpened H.Disk.Store (H.holds host.old.volume path.now)) (record {
       before = W.contents output.old;
       after = W.contents output.new;
       told_before = E.contents errors.old;
@@ -188,8 +188,8 @@ where
         Ok(Ok(())) => Ok(0),
         Ok(Err(fault)) => {
             let trouble = Trouble::Founding(path, fault);
-            decline(&mut host.shelf, errors, fault.word(), trouble)
+            decline(&mut host.volume, errors, fault.word(), trouble)
         }
-        Err(fault) => decline_to_open(host.alloc, &mut host.shelf, errors, path, fault),
+        Err(fault) => decline_to_open(host.alloc, &mut host.volume, errors, path, fault),
     }
 }

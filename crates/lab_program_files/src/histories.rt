@@ -3,9 +3,9 @@
 ghost use Rattle.std.specs.Prelude.{◌≡◌, List, [], ◌∷◌, None};
 ghost use Rattle.sqlite.specs.Files.{file_state, over_files};
 ghost use Rattle.sqlite.specs.State.{HasCleanDisk};
-ghost use Rattle.lab_records_kept.specs.Worlds.{Meaning};
-ghost use Rattle.lab_desk_runs.specs.Keeping.{GivenWithin};
-ghost use Rattle.lab_program_shelves.specs.Files.{AreHeldIn, IsOpened};
+ghost use Rattle.lab_records_keeper.specs.Worlds.{Meaning};
+ghost use Rattle.lab_desk_events.specs.Keeping.{GivenWithin};
+ghost use Rattle.lab_program_opening.specs.Files.{AreHeldIn, IsOpened};
 ghost use Rattle.lab_program_files.specs.Histories.{Begins, GoesOnAlone, IsDone, IsHistory, IsTaskRun, Work, world_left, world_opened};
 
 use sqlite_disk::Disk;

@@ -1,6 +1,6 @@
 //! A file of laboratories, closed.
 
-use lab_program_shelves::Closing;
+use lab_program_opening::Closing;
 use lab_store::Store;
 use sqlite::{Alter, Connection};
 

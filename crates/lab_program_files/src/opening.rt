@@ -1,9 +1,9 @@
 //! Who opens the file at a path, and opens it anew.
 
 use crate::leaving::leave;
+use lab_program_opening::{Closing, OpenFault, Volume, open_file};
 use lab_program_serve::Opener;
-use lab_program_shelves::{Closing, OpenFault, Shelf, open_file};
-use lab_records_kept::{BadStore, KeeperFault};
+use lab_records_keeper::{BadStore, KeeperFault};
 use lab_store::Store;
 use lab_store_files::FileFault;
 use sqlite::Connection;
@@ -30,11 +30,11 @@ fn opening_fault(fault: OpenFault) -> KeeperFault {
     }
 }
 
-impl<'a, H: Shelf> Opener<H, Store<H::Disk>> for FileOpener<'a>
+impl<'a, H: Volume> Opener<H, Store<H::Disk>> for FileOpener<'a>
 where
     Connection<H::Disk>: Closing,
 {
-    ghost use Rattle.lab_program_shelves.specs.Files.{IsOursAnywhere};
+    ghost use Rattle.lab_program_opening.specs.Files.{IsOursAnywhere};
 
     ghost opened = { IsOursAnywhere H.Disk.Store H.holds };
 

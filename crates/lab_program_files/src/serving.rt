@@ -1,42 +1,42 @@
 //! `labdesk serve`: the laboratories of a file are served on a port of this machine.
 
 ghost use Rattle.lab_program_files.specs.FileWorlds.{file_keeper};
-ghost use Rattle.lab_program_shelves.specs.Files.{IsOurs, IsOursAnywhere};
+ghost use Rattle.lab_program_opening.specs.Files.{IsOurs, IsOursAnywhere};
 ghost use Rattle.lab_program_files.specs.Serving.{ServesFile};
-ghost use Rattle.lab_program_outside.specs.Sources.{drawing_of};
+ghost use Rattle.lab_program_host.specs.Sources.{drawing_of};
 ghost use Rattle.std.specs.Prelude.{IfOk, IsSomeAnd};
 
 use crate::opening::FileOpener;
-use lab_program_outside::{Chance, Clock, Host, ServerFault};
-use lab_program_serve::{Desk, Office, listen};
-use lab_program_shelves::{
-    Additions, Closing, OpenFault, Shelf, Trouble, decline, decline_to_open, open_file,
+use lab_forms_streams::WriteFault;
+use lab_program_host::{Chance, Clock, Host, ServerFault};
+use lab_program_opening::{
+    Additions, Closing, OpenFault, Trouble, Volume, decline, decline_to_open, open_file,
 };
+use lab_program_serve::{Desk, LiveDesk, listen};
 use lab_store::Store;
-use lab_wire_heads::WriteFault;
 use sqlite::Connection;
 use std::alloc::Global;
 use std::io::Write;
 use std::net::Net;
 
-// An office with a desk over the file at the path.
-fn office_opened<'p, H: Shelf>(
+// A live desk with a desk over the file at the path.
+fn live_desk_opened<'p, H: Volume>(
     alloc: Global,
-    shelf: &mut H,
+    volume: &mut H,
     path: &'p str,
-) -> Result<Office<Store<H::Disk>, FileOpener<'p>>, OpenFault>
+) -> Result<LiveDesk<Store<H::Disk>, FileOpener<'p>>, OpenFault>
 where
     Connection<H::Disk>: Closing,
-    ensures { IfOk result (λ office. IsSomeAnd office (λ desk.
-        IsOurs H.Disk.Store (H.holds shelf.old path.now) desk.keeper)) }
+    ensures { IfOk result (λ live_desk. IsSomeAnd live_desk (λ desk.
+        IsOurs H.Disk.Store (H.holds volume.old path.now) desk.keeper)) }
 {
-    let conn = open_file(alloc, shelf, path)?;
+    let conn = open_file(alloc, volume, path)?;
     let additions = Additions::of(conn.schema());
     if !additions.are_none() {
-        shelf.remark(path, additions);
+        volume.remark(path, additions);
     }
     let desk = Desk::new(alloc, Store::new(alloc, conn))?;
-    Ok(Office::new(alloc, FileOpener::new(path), desk)?)
+    Ok(LiveDesk::new(alloc, FileOpener::new(path), desk)?)
 }
 
 /// `labdesk serve`: opens the file at the path, listens at a port of this machine (0 is any that is
@@ -47,7 +47,7 @@ where
 ///
 /// # Errors
 /// It stopped, and standard error failed before the whole line was told.
-pub fn serve<N: Net, H: Shelf, C: Clock, X: Chance, P, W: Write, E: Write>(
+pub fn serve<N: Net, H: Volume, C: Clock, X: Chance, P, W: Write, E: Write>(
     host: &mut Host<'_, N, H, C, X, P>,
     path: &str,
     port: u16,
@@ -58,7 +58,7 @@ pub fn serve<N: Net, H: Shelf, C: Clock, X: Chance, P, W: Write, E: Write>(
 where
     Connection<H::Disk>: Closing,
     ensures { ServesFile (file_keeper H.Disk.Store)
-        (IsOurs H.Disk.Store (H.holds host.old.shelf path.now))
+        (IsOurs H.Disk.Store (H.holds host.old.volume path.now))
         (IsOursAnywhere H.Disk.Store H.holds)
         (drawing_of (C.coming host.old.clock) (C.coming host.new.clock)
         (X.coming host.old.chance) (X.coming host.new.chance)) count (record {
@@ -69,21 +69,21 @@ where
           status = result;
         }) }
 {
-    let mut office = match office_opened(host.alloc, &mut host.shelf, path) {
-        Ok(office) => office,
+    let mut live_desk = match live_desk_opened(host.alloc, &mut host.volume, path) {
+        Ok(live_desk) => live_desk,
         Err(OpenFault::Drawing) => {
             let word = OpenFault::Drawing.word();
-            return decline(&mut host.shelf, errors, word, Trouble::AtPort(port));
+            return decline(&mut host.volume, errors, word, Trouble::AtPort(port));
         }
         Err(fault) => {
-            return decline_to_open(host.alloc, &mut host.shelf, errors, path, fault);
+            return decline_to_open(host.alloc, &mut host.volume, errors, path, fault);
         }
     };
     let Ok(listener) = listen(host.net, port) else {
         let word = ServerFault::Read.word();
-        return decline(&mut host.shelf, errors, word, Trouble::AtPort(port));
+        return decline(&mut host.volume, errors, word, Trouble::AtPort(port));
     };
-    let status = lab_program_serve::serve(host, &mut office, listener, count, output, errors);
-    office.close(&mut host.shelf);
+    let status = lab_program_serve::serve(host, &mut live_desk, listener, count, output, errors);
+    live_desk.close(&mut host.volume);
     status
 }

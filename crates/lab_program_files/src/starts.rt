@@ -8,13 +8,13 @@ ghost use Rattle.sqlite.specs.Files.{file_state, over_files};
 ghost use Rattle.sqlite.specs.Held.{Held, IsConnected, state};
 ghost use Rattle.sqlite.specs.State.{HasCleanDisk};
 ghost use Rattle.lab_forms_texts.specs.declared.tick.Tick.{Tick};
-ghost use Rattle.lab_records_kept.specs.Worlds.{Given, Meaning, Passes, SameMeaning};
-ghost use Rattle.lab_records_walks.specs.Resting.{IsRead};
+ghost use Rattle.lab_records_keeper.specs.Worlds.{Given, Meaning, Passes, SameMeaning};
+ghost use Rattle.lab_records_copy_out.specs.Resting.{IsRead};
 ghost use Rattle.lab_store.specs.StoreWorlds.{world_of};
-ghost use Rattle.lab_desk_runs.specs.Keeping.{AreWithin, GivenWithin};
-ghost use Rattle.lab_desk_runs.specs.Runs.{Handled};
-ghost use Rattle.lab_desk_runs.specs.Starts.{Start};
-ghost use Rattle.lab_program_shelves.specs.Files.{AreHeldIn, IsOpened, IsOurs};
+ghost use Rattle.lab_desk_events.specs.Keeping.{AreWithin, GivenWithin};
+ghost use Rattle.lab_desk_events.specs.Runs.{Handled};
+ghost use Rattle.lab_desk_events.specs.Starts.{Start};
+ghost use Rattle.lab_program_opening.specs.Files.{AreHeldIn, IsOpened, IsOurs};
 ghost use Rattle.lab_program_serve.specs.Visits.{AreVisits, GoesOn, Visit};
 ghost use Rattle.lab_program_files.specs.FileWorlds.{file_keeper, file_rests, file_world};
 ghost use Rattle.lab_program_files.specs.Foundings.{IsFoundedAt};
@@ -30,7 +30,7 @@ use sqlite_disk::Disk;
 /// is any, also one that a fault has shut; `IsConnected` is what is true of each.
 ///
 /// So the starts over a file are those of which the law `a_stop_and_a_start_go_on`
-/// (`lab_desk_runs`) speaks: with each stop and the start after it there is one more of them
+/// (`lab_desk_events`) speaks: with each stop and the start after it there is one more of them
 /// (`goes_on`). Of the first start nothing is asked but what it found.
 pub fn a_start_finds_what_was_left<D: Disk, S: Alter>()
     ensures left { (last : Held (FileStore D D.Disk)) (image : Image) (next : Held S) →

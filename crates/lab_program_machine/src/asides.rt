@@ -5,13 +5,13 @@ ghost use Rattle.sqlite.specs.Held.{state};
 ghost use Rattle.sqlite.specs.Files.{over_files};
 ghost use Rattle.sqlite_wal.specs.Files.{image_at};
 ghost use Rattle.lab_store_tables.specs.Ready.{IsAtRest};
-ghost use Rattle.lab_program_shelves.specs.Files.{AreHeldIn, Finds};
+ghost use Rattle.lab_program_opening.specs.Files.{AreHeldIn, Finds};
 
 use crate::held::{connection_over, fault_of_holding};
-use crate::hosts::{HostShelf, Supposed};
+use crate::hosts::{HostVolume, Supposed};
 use crate::places::{Places, places_of};
 use crate::stats::Stat;
-use lab_program_shelves::Shelf;
+use lab_program_opening::Volume;
 use lab_store_files::FileFault;
 use os::{RangeLock, try_lock_range};
 use sqlite::{Connection, FileFrom, FileStore};
@@ -47,7 +47,7 @@ fn is_forbidden(kind: ErrorKind) -> bool {
     )
 }
 
-impl<'a, S: Supposed> HostShelf<'a, S> {
+impl<'a, S: Supposed> HostVolume<'a, S> {
     // Checks an old file before it is copied. Makes nothing if there is none.
     fn look_at_old(&self, path: &str) -> Result<(), FileFault> {
         match fs::metadata(self.rt, path) {

@@ -6,11 +6,11 @@ ghost use Rattle.sqlite.specs.Held.{state};
 ghost use Rattle.sqlite.specs.Files.{over_files};
 ghost use Rattle.sqlite_wal.specs.Files.{image_at};
 ghost use Rattle.lab_store_tables.specs.Ready.{IsAtRest};
-ghost use Rattle.lab_program_shelves.specs.Files.{AreHeldIn, Finds};
+ghost use Rattle.lab_program_opening.specs.Files.{AreHeldIn, Finds};
 
-use crate::hosts::{HostShelf, Supposed};
+use crate::hosts::{HostVolume, Supposed};
 use crate::places::Places;
-use lab_program_outside::{Renewable, renew};
+use lab_program_host::{Renewable, renew};
 use lab_store_files::FileFault;
 use sqlite::{Connection, FileFrom, FileStore, Files, Options, Start};
 use sqlite_std_file::{OpenError, open};
@@ -78,7 +78,7 @@ pub(crate) fn fault_of_holding(error: &OpenError) -> FileFault {
     }
 }
 
-impl<'a, S: Supposed> HostShelf<'a, S> {
+impl<'a, S: Supposed> HostVolume<'a, S> {
     /// Holds a file and its log. Makes those that are missing.
     pub(crate) fn held(&self, places: &Places) -> Result<Held<S>, OpenError> {
         let files = open(self.rt, places.file.as_str(), self.start.again())?;

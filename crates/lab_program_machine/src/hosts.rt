@@ -5,7 +5,7 @@ use crate::machine::print_records;
 use crate::places::{Places, places_of};
 use crate::stats::{Connected, Stat};
 use lab_program_advice::{Spot, write_advice};
-use lab_program_shelves::{Additions, OpenFault, Shelf, Trouble};
+use lab_program_opening::{Additions, OpenFault, Trouble, Volume};
 use lab_store_files::FileFault;
 use rand::TryRng;
 use rand::rngs::SysRng;
@@ -52,7 +52,7 @@ struct Waiting<S: Start> {
 /// The files of this machine, of which `S` is supposed. What is proved for each `S` holds for all
 /// bytes that the files may hold.
 #[derive(Drop)]
-pub struct HostShelf<'a, S: Start> {
+pub struct HostVolume<'a, S: Start> {
     pub(crate) rt: &'a HostRuntime,
     pub(crate) start: S,
     spot: Option<Spot>,
@@ -74,11 +74,11 @@ fn take_stack(rt: &HostRuntime) {
     let _ = SysRng::new(rt).try_fill_bytes(&mut room[..1]);
 }
 
-impl<'a, S: Supposed> HostShelf<'a, S> {
+impl<'a, S: Supposed> HostVolume<'a, S> {
     /// Returns the files of the machine of this runtime.
-    pub fn new(rt: &'a HostRuntime, start: S) -> HostShelf<'a, S> {
+    pub fn new(rt: &'a HostRuntime, start: S) -> HostVolume<'a, S> {
         take_stack(rt);
-        HostShelf {
+        HostVolume {
             rt,
             start,
             spot: None,
@@ -245,7 +245,7 @@ impl<'a, S: Supposed> HostShelf<'a, S> {
         }
     }
 
-    // The file to be connected to, held. The shelf notes which file it is.
+    // The file to be connected to, held. The volume notes which file it is.
     fn file_to_connect(&mut self, alloc: Global, path: &str) -> Result<Held<S>, FileFault> {
         let places = places_of(self.rt, alloc, path)?;
         if self.is_old(&places) {
@@ -303,13 +303,13 @@ impl<'a, S: Supposed> HostShelf<'a, S> {
     }
 }
 
-impl<'a, S: Supposed> Shelf for HostShelf<'a, S> {
+impl<'a, S: Supposed> Volume for HostVolume<'a, S> {
     ghost use Rattle.sqlite_wal.specs.Files.{image_at};
-    ghost use Rattle.lab_program_shelves.specs.Files.{AreHeldIn};
+    ghost use Rattle.lab_program_opening.specs.Files.{AreHeldIn};
 
     type Disk = FileStore<FileFrom<S>>;
 
-    ghost holds = { λ shelf path. AreHeldIn (image_at S.Start) };
+    ghost holds = { λ volume path. AreHeldIn (image_at S.Start) };
 
     fn has(&self, path: &str) -> Result<bool, FileFault> {
         match fs::metadata(self.rt, path) {

@@ -9,5 +9,5 @@ mod machine;
 mod places;
 mod stats;
 
-pub use crate::hosts::{HostShelf, Supposed};
+pub use crate::hosts::{HostVolume, Supposed};
 pub use crate::machine::{SystemChance, SystemClock, TerminalProgress};

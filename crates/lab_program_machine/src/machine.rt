@@ -1,8 +1,8 @@
 //! The clock and the source of random words of this machine, and its terminal.
 
 use lab_forms_texts::Moment;
-use lab_program_outside::{Chance, Clock, DrawFault};
-use lab_records_walks::Progress;
+use lab_program_host::{Chance, Clock, DrawFault};
+use lab_records_copy_out::Progress;
 use rand::TryRng;
 use rand::rngs::SysRng;
 use std::io::{IsTerminal, Write};

@@ -3,7 +3,7 @@ use Rattle.std.proofs.Common.{◌≡◌, ◌∙◌, decimal, codes, lit<, refl, 
 use Rattle.std.proofs.lemmas.Fmt.{decimal-digits_of}
 use Rattle.lab_store_files.specs.declared.faults.FileFault.TheVariants.{NotEmpty, SchemaNew}
 use Rattle.lab_move.specs.declared.faults.MoveFault.TheVariants.{File, NotSound}
-use Rattle.lab_program_outside.specs.Faults.{told_line}
+use Rattle.lab_program_host.specs.Faults.{told_line}
 use Rattle.lab_program_moves.specs.Moves.{TellsFault, migrated_line}
 
 two : decimal 2 ≡ codes "2"

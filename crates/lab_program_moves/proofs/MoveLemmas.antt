@@ -9,7 +9,7 @@ use Rattle.sqlite.specs.Files.{file_state, over_files}
 use Rattle.sqlite.specs.Held.{Held}
 use Rattle.sqlite.specs.State.{HasCleanDisk, State}
 use Rattle.lab_records_kept.specs.declared.labs.Lab.{Lab}
-use Rattle.lab_records_kept.specs.Worlds.{SameMeaning}
+use Rattle.lab_records_keeper.specs.Worlds.{SameMeaning}
 use Rattle.lab_records_kept.specs.Limits.{IsWithin}
 use Rattle.lab_records_laws.specs.Runs.{IsReleasing}
 use Rattle.lab_records_laws.specs.Stepping.{WhereThere}
@@ -17,7 +17,7 @@ use Rattle.lab_store_tables.specs.Meaning.{meaning}
 use Rattle.lab_store_tables.specs.Ready.{IsAtRest, tables_of}
 use Rattle.lab_store_tables.specs.Rows.{Tables, tables_in}
 use Rattle.lab_move.specs.Moving.{IsMoved, IsStart}
-use Rattle.lab_program_shelves.specs.Files.{LeavesShown}
+use Rattle.lab_program_opening.specs.Files.{LeavesShown}
 use Rattle.lab_program_files.specs.Histories.{Begins, IsDone}
 use Rattle.lab_program_moves.specs.Histories.{moved_in}
 use Rattle.lab_program_moves.specs.Moves.{Moves}

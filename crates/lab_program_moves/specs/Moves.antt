@@ -9,19 +9,19 @@ use Rattle.sqlite.specs.Held.{Held, state}
 use Rattle.sqlite.specs.State.{HasCleanDisk}
 use Rattle.lab_store_tables.specs.Ready.{tables_of}
 use Rattle.lab_forms_texts.specs.Faults.{memory_entry}
-use Rattle.lab_wire_heads.specs.declared.sending.WriteFault.{WriteFault as Untold}
-use Rattle.lab_wire_heads.specs.Sending.{write_fault_word}
+use Rattle.lab_forms_streams.specs.declared.sending.WriteFault.{WriteFault as Untold}
+use Rattle.lab_forms_streams.specs.Sending.{write_fault_word}
 use Rattle.lab_move.specs.Moving.{HasCause, IsMoved, IsStart, LeavesUnfinished}
 use Rattle.lab_move.specs.declared.faults.MoveFault.{MoveFault}
 use Rattle.lab_move.specs.declared.faults.MoveFault.TheVariants.{File, NotSound}
 use Rattle.lab_store_tables.specs.Rows.{Tables}
 use Rattle.lab_move_tables.specs.Reading.{PassesOver, ReadsOld}
 use Rattle.lab_move_tables.specs.Standing.{StandsFor}
-use Rattle.lab_program_outside.specs.TaskEnds.{TaskEnd}
-use Rattle.lab_program_shelves.specs.declared.faults.OpenFault.{OpenFault}
-use Rattle.lab_program_shelves.specs.declared.faults.OpenFault.TheVariants.{File as Unopened}
-use Rattle.lab_program_shelves.specs.Faults.{Declines, TellsWord}
-use Rattle.lab_program_shelves.specs.Files.{Finds, LeavesShown}
+use Rattle.lab_program_host.specs.TaskEnds.{TaskEnd}
+use Rattle.lab_program_opening.specs.declared.faults.OpenFault.{OpenFault}
+use Rattle.lab_program_opening.specs.declared.faults.OpenFault.TheVariants.{File as Unopened}
+use Rattle.lab_program_opening.specs.Faults.{Declines, TellsWord}
+use Rattle.lab_program_opening.specs.Files.{Finds, LeavesShown}
 
 -- ---- what was printed and told
 

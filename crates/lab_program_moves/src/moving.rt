@@ -4,52 +4,52 @@ ghost use Rattle.std.specs.Prelude.{IfOk};
 ghost use Rattle.sqlite.specs.Held.{state};
 ghost use Rattle.lab_store_files.specs.NewFiles.{IsBlank};
 ghost use Rattle.lab_store_tables.specs.Ready.{IsAtRest};
-ghost use Rattle.lab_program_shelves.specs.Files.{IsBlankAt};
-ghost use Rattle.lab_program_shelves.specs.Faults.{TellsWord};
+ghost use Rattle.lab_program_opening.specs.Files.{IsBlankAt};
+ghost use Rattle.lab_program_opening.specs.Faults.{TellsWord};
 ghost use Rattle.lab_program_moves.specs.Moves.{IsAsked, IsMigration, Moves, Prints, TellsFault, TellsUnsound, migrated_line};
 
+use lab_forms_streams::{WriteFault, write_whole};
 use lab_forms_texts::{LabCode, OutOfMemory};
 use lab_move::{MoveFault, MoveProgress, OldFile};
-use lab_program_outside::{Host, ServerFault, tell};
-use lab_program_shelves::{
-    Closing, OpenFault, Shelf, Trouble, decline, decline_by, open_new, open_old,
+use lab_program_host::{Host, ServerFault, tell};
+use lab_program_opening::{
+    Closing, OpenFault, Trouble, Volume, decline, decline_by, open_new, open_old,
 };
-use lab_wire_heads::{WriteFault, write_reply};
 use sqlite::Connection;
 use std::alloc::Global;
 use std::io::Write;
 
 /// Who tells a person at a terminal which laboratory is moved, and how many of its records are.
 struct Teller<'a, H> {
-    shelf: &'a mut H,
+    volume: &'a mut H,
 }
 
-impl<'a, H: Shelf> MoveProgress for Teller<'a, H> {
+impl<'a, H: Volume> MoveProgress for Teller<'a, H> {
     fn tell_lab(&mut self, lab: &LabCode, done: usize, all: usize) {
-        self.shelf
+        self.volume
             .tell_move(lab.as_str(), done.saturating_add(1), all);
     }
 
     fn tell_records(&mut self, done: usize, all: usize) {
-        self.shelf.tell_records(done, all);
+        self.volume.tell_records(done, all);
     }
 }
 
 // The old file at the path, of schema 2.
-fn old_file<H: Shelf>(
+fn old_file<H: Volume>(
     alloc: Global,
-    shelf: &mut H,
+    volume: &mut H,
     path: &str,
     new: &str,
 ) -> Result<OldFile<H::Disk>, OpenFault>
-    ensures { IfOk result (λ file. IsAsked H.Disk.Store (H.holds shelf.old path.now) file.conn) }
+    ensures { IfOk result (λ file. IsAsked H.Disk.Store (H.holds volume.old path.now) file.conn) }
 {
-    let conn = open_old(alloc, shelf, path, new)?;
+    let conn = open_old(alloc, volume, path, new)?;
     let mut file = OldFile { conn };
     match lab_move::open_old(&mut file) {
         Ok(()) => Ok(file),
         Err(fault) => {
-            shelf.leave_new();
+            volume.leave_new();
             Err(OpenFault::File(fault))
         }
     }
@@ -81,16 +81,16 @@ fn print<W: Write, E: Write>(
     let Ok(line) = format!(in alloc; "migrated {count}\n") else {
         return word_told(errors, OutOfMemory.word());
     };
-    match write_reply(output, line.as_bytes()) {
+    match write_whole(output, line.as_bytes()) {
         Ok(()) => Ok(0),
         Err(_) => word_told(errors, ServerFault::Write.word()),
     }
 }
 
 // Tells that a laboratory isn't sound, and answers the status of a fault.
-fn decline_unsound<H: Shelf, E: Write>(
+fn decline_unsound<H: Volume, E: Write>(
     alloc: Global,
-    shelf: &mut H,
+    volume: &mut H,
     errors: &mut E,
     code: &str,
     trouble: Trouble<'_>,
@@ -98,8 +98,8 @@ fn decline_unsound<H: Shelf, E: Write>(
     ensures { TellsUnsound code.now result (E.contents errors.old) (E.contents errors.new) }
 {
     match format!(in alloc; "not_sound {code}") {
-        Ok(text) => decline(shelf, errors, text.as_str(), trouble),
-        Err(_) => decline(shelf, errors, OutOfMemory.word(), trouble),
+        Ok(text) => decline(volume, errors, text.as_str(), trouble),
+        Err(_) => decline(volume, errors, OutOfMemory.word(), trouble),
     }
 }
 
@@ -111,9 +111,9 @@ struct Paths<'a> {
 }
 
 // Tells why a move stopped, and answers the status of a fault.
-fn decline_move<H: Shelf, E: Write>(
+fn decline_move<H: Volume, E: Write>(
     alloc: Global,
-    shelf: &mut H,
+    volume: &mut H,
     errors: &mut E,
     paths: Paths<'_>,
     fault: &MoveFault,
@@ -123,20 +123,20 @@ fn decline_move<H: Shelf, E: Write>(
     match fault {
         MoveFault::File(fault) => {
             let trouble = Trouble::Moving(paths.old, paths.new, *fault);
-            decline_by(alloc, shelf, errors, OpenFault::File(*fault), trouble)
+            decline_by(alloc, volume, errors, OpenFault::File(*fault), trouble)
         }
         MoveFault::NotSound { lab } => {
             let trouble = Trouble::Unsound(paths.old, lab.as_str(), paths.new);
-            decline_unsound(alloc, shelf, errors, lab.as_str(), trouble)
+            decline_unsound(alloc, volume, errors, lab.as_str(), trouble)
         }
     }
 }
 
 // Moves the laboratories of an old file that was opened into a new one that was, and closes the new
 // one. The old one is let go of, and not closed, since that would write to it.
-fn count_moved<H: Shelf>(
+fn count_moved<H: Volume>(
     alloc: Global,
-    shelf: &mut H,
+    volume: &mut H,
     old: OldFile<H::Disk>,
     new: Connection<H::Disk>,
 ) -> Result<u64, MoveFault>
@@ -147,9 +147,9 @@ where
     ensures { Moves H.Disk.Store old.conn new result }
 {
     let (mut old, mut new) = (old, new);
-    let mut teller = Teller { shelf };
+    let mut teller = Teller { volume };
     let moved = lab_move::migrate(alloc, &mut old, &mut new, &mut teller);
-    let Teller { shelf: _ } = teller;
+    let Teller { volume: _ } = teller;
     let _ = new.close_whole();
     moved
 }
@@ -160,7 +160,7 @@ where
 ///
 /// # Errors
 /// It stopped, and standard error failed before the whole line was told.
-pub fn migrate<N, H: Shelf, C, X, P, W: Write, E: Write>(
+pub fn migrate<N, H: Volume, C, X, P, W: Write, E: Write>(
     host: &mut Host<'_, N, H, C, X, P>,
     old: &str,
     new: &str,
@@ -169,7 +169,7 @@ pub fn migrate<N, H: Shelf, C, X, P, W: Write, E: Write>(
 ) -> Result<u8, WriteFault>
 where
     Connection<H::Disk>: Closing,
-    ensures { IsMigration H.Disk.Store (H.holds host.old.shelf old.now)
+    ensures { IsMigration H.Disk.Store (H.holds host.old.volume old.now)
         (IsBlankAt H.Disk.Store H.holds new.now) (record {
           before = W.contents output.old;
           after = W.contents output.new;
@@ -178,25 +178,25 @@ where
           status = result;
         }) }
 {
-    let from = match old_file(host.alloc, &mut host.shelf, old, new) {
+    let from = match old_file(host.alloc, &mut host.volume, old, new) {
         Ok(file) => file,
         Err(fault) => {
             let trouble = Trouble::Old(old, new, fault);
-            return decline_by(host.alloc, &mut host.shelf, errors, fault, trouble);
+            return decline_by(host.alloc, &mut host.volume, errors, fault, trouble);
         }
     };
-    let into = match open_new(host.alloc, &mut host.shelf, new) {
+    let into = match open_new(host.alloc, &mut host.volume, new) {
         Ok(conn) => conn,
         Err(fault) => {
             let trouble = Trouble::New(new, fault);
-            return decline_by(host.alloc, &mut host.shelf, errors, fault, trouble);
+            return decline_by(host.alloc, &mut host.volume, errors, fault, trouble);
         }
     };
-    match count_moved(host.alloc, &mut host.shelf, from, into) {
+    match count_moved(host.alloc, &mut host.volume, from, into) {
         Ok(count) => print(host.alloc, count, output, errors),
         Err(fault) => decline_move(
             host.alloc,
-            &mut host.shelf,
+            &mut host.volume,
             errors,
             Paths { old, new },
             &fault,

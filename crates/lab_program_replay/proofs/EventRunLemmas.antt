@@ -6,14 +6,14 @@ use Rattle.std.specs.List.{concat}
 use Rattle.std.specs.Io.KnownBytes.{Appends, Keeps}
 use Rattle.std.proofs.KnownBytes.{Appends-nil, Appends-trans, Appends-kept, Keeps-refl}
 use Rattle.std.proofs.lemmas.List.Folds.{concat-append}
-use Rattle.lab_wire_heads.specs.declared.sending.WriteFault.{WriteFault as Untold}
-use Rattle.lab_records_kept.specs.Worlds.{World}
-use Rattle.lab_desk_runs.specs.declared.events.Event.{Event}
+use Rattle.lab_forms_streams.specs.declared.sending.WriteFault.{WriteFault as Untold}
+use Rattle.lab_records_keeper.specs.Worlds.{World}
+use Rattle.lab_desk_events.specs.declared.events.Event.{Event}
 use Rattle.lab_desk_foundings.specs.declared.run_faults.RunFault.{RunFault}
 use Rattle.lab_desk_foundings.specs.declared.run_faults.RunFault.TheVariants.{Memory as RunMemory, Write}
 use Rattle.std.proofs.lemmas.List.{map-append}
-use Rattle.lab_desk_runs.specs.Alone.{happening}
-use Rattle.lab_desk_runs.specs.Runs.{Handled, IsRun, Runs, RunsCut, answers_of}
+use Rattle.lab_desk_events.specs.Alone.{happening}
+use Rattle.lab_desk_events.specs.Runs.{Handled, IsRun, Runs, RunsCut, answers_of}
 use Rattle.lab_desk_foundings.specs.RunFaults.{IfWrite, IfMemory}
 use Rattle.lab_program_replay.specs.declared.fault.ReplayFault.{ReplayFault}
 use Rattle.lab_program_replay.specs.declared.fault.ReplayFault.TheVariants.{BadEvent, ReadFault, WriteFault, Storage, Memory}
@@ -21,7 +21,7 @@ use Rattle.lab_program_replay.specs.Event.{next_event}
 use Rattle.lab_program_replay.specs.Fault.{IsInputFault, fault_of_run, fault_line}
 use Rattle.lab_program_replay.specs.Reading.{TakesNext}
 use Rattle.lab_program_replay.specs.Replay.{BeginsWith, Stops, IsTold, IsWritten, Replays, AreEvents}
-use Rattle.lab_desk_runs.proofs.Running.{run_then, no_run}
+use Rattle.lab_desk_events.proofs.Running.{run_then, no_run}
 
 -- the events so far were run, and the rest of the input is left
 pub record SoFar (old new : World) (input now before after : Option (List ℕ)) : Type 0 where

@@ -2,7 +2,7 @@
 use Rattle.std.proofs.Common.{◌≡◌, ℕ, ◌<◌, ◌≤◌, List, [], ◌∷◌, ◌++◌, length, take, drop, Option, Some, None, Bool, true, false, cond, nat_le, refl, arith, sym, ap, ◌∙◌, length-append, append-nil}
 use Rattle.std.specs.Prelude.{IfSome, Ok, Err, Vec}
 use Rattle.std.proofs.lemmas.Bool.Decides.{nat_tests}
-use Rattle.lab_desk_runs.specs.declared.events.Event.{Event as EventRead}
+use Rattle.lab_desk_events.specs.declared.events.Event.{Event as EventRead}
 use Rattle.lab_program_replay.specs.declared.event.Heading.{Heading as HeadingRead}
 use Rattle.lab_program_replay.specs.declared.fault.ReplayFault.{ReplayFault}
 use Rattle.lab_program_replay.specs.declared.fault.ReplayFault.TheVariants.{BadEvent, ReadFault, WriteFault, Storage, Memory}

@@ -9,14 +9,14 @@ use Rattle.std.proofs.lemmas.List.Elements.{All-nil}
 use Rattle.sqlite.specs.State.{State}
 use Rattle.lab_records_kept.specs.declared.labs.Lab.{Lab}
 use Rattle.lab_records_kept.specs.Limits.{IsWithin}
-use Rattle.lab_records_kept.specs.Worlds.{Meaning, World}
+use Rattle.lab_records_keeper.specs.Worlds.{Meaning, World}
 use Rattle.lab_records_laws.specs.Runs.{IsReleasing}
 use Rattle.lab_records_laws.specs.Stepping.{WhereThere}
 use Rattle.lab_store.specs.StoreWorlds.{world_of}
-use Rattle.lab_desk_runs.specs.Alone.{alone_after}
-use Rattle.lab_desk_runs.specs.Keeping.{AreWithin, OfAll}
-use Rattle.lab_desk_runs.specs.Runs.{Handled, IsRun, after_run, own_events}
-use Rattle.lab_desk_runs.proofs.Running.{run_releasing}
+use Rattle.lab_desk_events.specs.Alone.{alone_after}
+use Rattle.lab_desk_events.specs.Keeping.{AreWithin, OfAll}
+use Rattle.lab_desk_events.specs.Runs.{Handled, IsRun, after_run, own_events}
+use Rattle.lab_desk_events.proofs.Running.{run_releasing}
 use Rattle.lab_program_replay.specs.declared.fault.ReplayFault.{ReplayFault}
 use Rattle.lab_program_replay.specs.declared.fault.ReplayFault.TheVariants.{BadEvent, ReadFault, WriteFault, Storage, Memory}
 use Rattle.lab_program_replay.specs.Event.{next_event}

@@ -2,8 +2,8 @@
 use Rattle.std.specs.Prelude.{List, ℕ, codes, ◌++◌}
 use Rattle.lab_desk_foundings.specs.declared.run_faults.RunFault.{RunFault}
 use Rattle.lab_desk_foundings.specs.declared.run_faults.RunFault.TheVariants.{Memory as RunMemory, Write}
-use Rattle.lab_records_kept.specs.Faults.{storage_entry}
-use Rattle.lab_wire_heads.specs.Sending.{read_fault_word, write_fault_word}
+use Rattle.lab_records_keeper.specs.Faults.{storage_entry}
+use Rattle.lab_forms_streams.specs.Sending.{read_fault_word, write_fault_word}
 use Rattle.lab_forms_texts.specs.Faults.{memory_entry}
 use Rattle.lab_forms_texts.specs.declared.faults.BadName.{BadName}
 use Rattle.lab_forms_texts.specs.declared.refusals.Fault.{Fault}

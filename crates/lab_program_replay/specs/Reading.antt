@@ -5,8 +5,8 @@ use Rattle.std.specs.Io.KnownBytes.{Consumes}
 use Rattle.lab_program_replay.specs.declared.fault.ReplayFault.{ReplayFault}
 use Rattle.lab_program_replay.specs.declared.fault.ReplayFault.TheVariants.{BadEvent, WriteFault, Memory}
 use Rattle.lab_program_replay.specs.declared.event.Heading.{Heading as HeadingRead}
-use Rattle.lab_desk_runs.specs.declared.events.Event.{Event as EventRead}
-use Rattle.lab_desk_runs.specs.declared.events.Event.TheVariants.{Found, Call}
+use Rattle.lab_desk_events.specs.declared.events.Event.{Event as EventRead}
+use Rattle.lab_desk_events.specs.declared.events.Event.TheVariants.{Found, Call}
 use Rattle.lab_program_replay.specs.Event.{line_at, Heading, Event, Next, End, Bad, Taken}
 
 -- a text was refused with this fault

@@ -2,11 +2,11 @@
 -- and in order, and stops at the end of the input, at what is no event, or at a fault.
 use Rattle.std.specs.Prelude.{◌≡◌, ◌<◌, ℕ, List, [], ◌∷◌, ◌++◌, length, take, map, Option, Ok, Err, Result, IfSome, IfOk}
 use Rattle.std.specs.Io.KnownBytes.{Keeps, Appends}
-use Rattle.lab_wire_heads.specs.declared.sending.WriteFault.{WriteFault as Untold}
-use Rattle.lab_records_kept.specs.Worlds.{World}
-use Rattle.lab_desk_runs.specs.declared.events.Event.{Event as EventRead}
-use Rattle.lab_desk_runs.specs.Alone.{happening}
-use Rattle.lab_desk_runs.specs.Runs.{Handled, IsRun, answers_of}
+use Rattle.lab_forms_streams.specs.declared.sending.WriteFault.{WriteFault as Untold}
+use Rattle.lab_records_keeper.specs.Worlds.{World}
+use Rattle.lab_desk_events.specs.declared.events.Event.{Event as EventRead}
+use Rattle.lab_desk_events.specs.Alone.{happening}
+use Rattle.lab_desk_events.specs.Runs.{Handled, IsRun, answers_of}
 use Rattle.lab_program_replay.specs.declared.fault.ReplayFault.{ReplayFault}
 use Rattle.lab_program_replay.specs.declared.fault.ReplayFault.TheVariants.{BadEvent, ReadFault, WriteFault, Storage, Memory}
 use Rattle.lab_program_replay.specs.Event.{Next, End, Bad, Taken, next_event}

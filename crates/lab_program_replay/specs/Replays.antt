@@ -3,12 +3,12 @@
 -- that a copy of the input is a true copy of the run (21 CFR 11.10(b)).
 use Rattle.std.specs.Prelude.{ℕ, List, All, Option, None, Result, IfSome}
 use Rattle.std.specs.Io.KnownBytes.{Appends}
-use Rattle.lab_wire_heads.specs.declared.sending.WriteFault.{WriteFault as Untold}
-use Rattle.lab_records_kept.specs.Worlds.{Meaning}
+use Rattle.lab_forms_streams.specs.declared.sending.WriteFault.{WriteFault as Untold}
+use Rattle.lab_records_keeper.specs.Worlds.{Meaning}
 use Rattle.lab_records_laws.specs.Runs.{IsReleasing}
-use Rattle.lab_desk_runs.specs.declared.events.Event.{Event}
-use Rattle.lab_desk_runs.specs.Keeping.{OfAll}
-use Rattle.lab_desk_runs.specs.Runs.{Handled, AreAlone, IsAnswer, KeepsAlong, after_run}
+use Rattle.lab_desk_events.specs.declared.events.Event.{Event}
+use Rattle.lab_desk_events.specs.Keeping.{OfAll}
+use Rattle.lab_desk_events.specs.Runs.{Handled, AreAlone, IsAnswer, KeepsAlong, after_run}
 use Rattle.lab_program_replay.specs.declared.fault.ReplayFault.{ReplayFault}
 use Rattle.lab_program_replay.specs.declared.fault.ReplayFault.TheVariants.{BadEvent, ReadFault, WriteFault, Storage, Memory}
 use Rattle.lab_program_replay.specs.Event.{next_event}

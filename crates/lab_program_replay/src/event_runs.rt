@@ -1,12 +1,12 @@
 //! The events of an input, run one after the other on a desk.
-ghost use Rattle.lab_desk_runs.specs.Keeping.{GivenWithin};
+ghost use Rattle.lab_desk_events.specs.Keeping.{GivenWithin};
 ghost use Rattle.lab_program_replay.specs.Replay.{IsTold, Replays};
 
 use crate::event::next_event;
 use crate::fault::ReplayFault;
 use lab_desk::Desk;
-use lab_records_kept::Keeper;
-use lab_wire_heads::{WriteFault, write_reply};
+use lab_forms_streams::{WriteFault, write_whole};
+use lab_records_keeper::Keeper;
 use std::alloc::Global;
 use std::io::{BufRead, Write};
 
@@ -41,5 +41,5 @@ pub fn run_events<S: Keeper + Drop, B: BufRead, W: Write>(
 pub fn tell<E: Write>(errors: &mut E, fault: ReplayFault) -> Result<(), WriteFault>
     ensures { IsTold fault result (E.contents errors.old) (E.contents errors.new) }
 {
-    write_reply(errors, fault.line().as_bytes())
+    write_whole(errors, fault.line().as_bytes())
 }

@@ -13,7 +13,7 @@ pub use event::next_event;
 pub use event_runs::{run_events, tell};
 pub use fault::ReplayFault;
 pub use lab_desk::{Desk, Event};
-pub use lab_wire_heads::WriteFault;
+pub use lab_forms_streams::WriteFault;
 pub use limited::{LimitedReader, MOST_ASKS};
 pub use memory::store_in_memory;
 pub use replays::replay;

@@ -7,9 +7,9 @@ ghost use Rattle.lab_program_replay.specs.Replays.{IsBeginFault, IsReplay, Repla
 
 use crate::memory::store_in_memory;
 use crate::{Desk, LimitedReader, MOST_ASKS, ReplayFault, run_events, tell};
+use lab_forms_streams::WriteFault;
 use lab_store::Store;
 use lab_store_files::FileFault;
-use lab_wire_heads::WriteFault;
 use sqlite::MemStore;
 use std::alloc::Global;
 use std::io::{BufReader, Read, Write};

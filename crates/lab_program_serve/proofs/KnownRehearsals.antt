@@ -1,8 +1,8 @@
 -- Values from outside, computed on the definitions: the request of a rehearsal (RFC 9112, section 2), its tick, and small
 -- instances of what is printed of a reply.
 use Rattle.std.proofs.Common.{◌≡◌, codes, refl, length, Some, Ok, Err, []}
-use Rattle.lab_program_outside.specs.declared.faults.ServerFault.{ServerFault}
-use Rattle.lab_program_outside.specs.declared.faults.ServerFault.TheVariants.{Write}
+use Rattle.lab_program_host.specs.declared.faults.ServerFault.{ServerFault}
+use Rattle.lab_program_host.specs.declared.faults.ServerFault.TheVariants.{Write}
 use Rattle.lab_program_serve.specs.Rehearsals.{card_request, rehearsal_tick, Forwards}
 
 -- no body, and so no length; an empty line ends the request

@@ -5,19 +5,19 @@ use Rattle.std.proofs.lemmas.Fmt.{decimal-digits_of}
 use Rattle.std.proofs.lemmas.List.Elements.{All-cons, All-nil}
 use Rattle.std.specs.Prelude.{◌==◌, ◌⊎◌}
 use Rattle.std.specs.Str.{bytes_eq}
-use Rattle.lab_program_outside.specs.declared.faults.ServerFault.{ServerFault}
-use Rattle.lab_program_outside.specs.declared.faults.ServerFault.TheVariants.{Write}
+use Rattle.lab_program_host.specs.declared.faults.ServerFault.{ServerFault}
+use Rattle.lab_program_host.specs.declared.faults.ServerFault.TheVariants.{Write}
 use Rattle.lab_forms_texts.specs.declared.tick.Tick.{Tick}
 use Rattle.lab_records_kept.specs.Limits.{IsWithin}
-use Rattle.lab_records_kept.specs.Worlds.{Meaning, SameMeaning, World}
+use Rattle.lab_records_keeper.specs.Worlds.{Meaning, SameMeaning, World}
 use Rattle.lab_records_laws.specs.Runs.{IsReleasing}
 use Rattle.lab_wire.specs.declared.commands.Asked.{Asked}
 use Rattle.lab_wire.specs.declared.replies.Answer.TheVariants.{Storage}
 use Rattle.lab_wire.specs.Replies.{reply_text}
-use Rattle.lab_desk_runs.specs.Alone.{Request}
-use Rattle.lab_desk_runs.specs.Keeping.{OfAll}
-use Rattle.lab_desk_runs.specs.Runs.{Handled, IsAnswer, after_run}
-use Rattle.lab_desk_runs.proofs.Keeping.{follows_itself}
+use Rattle.lab_desk_events.specs.Alone.{Request}
+use Rattle.lab_desk_events.specs.Keeping.{OfAll}
+use Rattle.lab_desk_events.specs.Runs.{Handled, IsAnswer, after_run}
+use Rattle.lab_desk_events.proofs.Keeping.{follows_itself}
 use Rattle.lab_program_serve.specs.Runs.{IsServedRun}
 use Rattle.lab_program_serve.specs.Texts.{listening_line, IsPrinted}
 use Rattle.lab_program_serve.specs.Visits.{AreCounted, Visit, is_unavailable}

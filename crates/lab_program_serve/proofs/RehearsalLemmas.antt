@@ -8,16 +8,16 @@ use Rattle.lab_forms_texts.specs.declared.faults.MomentFault.{MomentFault}
 use Rattle.lab_forms_texts.specs.declared.tick.Tick.{Tick}
 use Rattle.lab_forms_texts.specs.Moment.{is_moment}
 use Rattle.lab_records_kept.specs.declared.labs.Lab.{Lab}
-use Rattle.lab_records_kept.specs.declared.faults.PlacingFault.TheVariants.{LabExists, Storage, Memory}
+use Rattle.lab_records_keeper.specs.declared.faults.PlacingFault.TheVariants.{LabExists, Storage, Memory}
 use Rattle.lab_records_machine.specs.Births.{newborn}
-use Rattle.lab_records_lists.specs.Lists.{lab_of, world_of}
+use Rattle.lab_records_memory.specs.Lists.{lab_of, world_of}
 use Rattle.lab_desk_foundings.specs.declared.faults.FoundFault.{FoundFault}
 use Rattle.lab_desk_foundings.specs.declared.faults.FoundFault.TheVariants.{Body as OfBody, Birth as OfBirth, Placing}
 use Rattle.lab_desk_foundings.specs.Faults.{FoundFaultFits}
 use Rattle.lab_desk_foundings.specs.Foundings.{Body, Founds, founding_in}
-use Rattle.lab_program_outside.specs.declared.faults.RehearsalFault.{RehearsalFault}
-use Rattle.lab_program_outside.specs.declared.faults.RehearsalFault.TheVariants.{Founding, Server}
-use Rattle.lab_program_outside.specs.declared.faults.ServerFault.{ServerFault}
+use Rattle.lab_program_host.specs.declared.faults.RehearsalFault.{RehearsalFault}
+use Rattle.lab_program_host.specs.declared.faults.RehearsalFault.TheVariants.{Founding, Server}
+use Rattle.lab_program_host.specs.declared.faults.ServerFault.{ServerFault}
 use Rattle.lab_program_serve.specs.Rehearsals.{Forwards, IsFounded, IsServedAt, IsUnfounded, rehearsal_tick}
 use Rattle.lab_program_serve.specs.RehearseTask.{FoundsBy, Prints}
 use Rattle.lab_program_serve.specs.Texts.{IsPrinted}

@@ -5,21 +5,21 @@ use Rattle.std.specs.Fmt.{digits}
 use Rattle.std.proofs.lemmas.Bool.{false≢true}
 use Rattle.std.proofs.lemmas.List.{map-append}
 use Rattle.lab_forms_texts.specs.declared.tick.Tick.{Tick}
-use Rattle.lab_records_kept.specs.declared.keeper.Keeper.{Ghosts}
+use Rattle.lab_records_keeper.specs.declared.keeper.Keeper.{Ghosts}
 use Rattle.lab_wire_heads.specs.Messages.{message_text}
 use Rattle.lab_wire.specs.declared.replies.Answer.TheVariants.{Storage}
 use Rattle.lab_wire.specs.Replies.{memory_text, reply_text}
 use Rattle.lab_desk_foundings.specs.declared.run_faults.ServeFault.TheVariants.{Read, Interim, Reply}
-use Rattle.lab_desk_runs.specs.Alone.{Happening, Request}
-use Rattle.lab_desk_runs.specs.Keeping.{AreReleasing, AreWithin, GivenWithin}
-use Rattle.lab_desk_runs.specs.Leaving.{as_told}
-use Rattle.lab_desk_runs.specs.Requests.{IsRefusedReply}
-use Rattle.lab_desk_runs.specs.Runs.{Handled, IsRun, IsTold}
-use Rattle.lab_desk_runs.proofs.Leaving.{LeavesAwake, awake_between, awake_none, awake_on, leaves_awake, request_leaves, request_lives}
-use Rattle.lab_desk_runs.proofs.Running.{no_run, one_request, run_then, still_run}
+use Rattle.lab_desk_events.specs.Alone.{Happening, Request}
+use Rattle.lab_desk_events.specs.Keeping.{AreReleasing, AreWithin, GivenWithin}
+use Rattle.lab_desk_events.specs.Leaving.{as_told}
+use Rattle.lab_desk_events.specs.Requests.{IsRefusedReply}
+use Rattle.lab_desk_events.specs.Runs.{Handled, IsRun, IsTold}
+use Rattle.lab_desk_events.proofs.Leaving.{LeavesAwake, awake_between, awake_none, awake_on, leaves_awake, request_leaves, request_lives}
+use Rattle.lab_desk_events.proofs.Running.{no_run, one_request, run_then, still_run}
 use Rattle.lab_desk.specs.Answering.{Answers}
 use Rattle.lab_desk.specs.Serving.{Exchange, HandlesRequest}
-use Rattle.lab_program_outside.specs.declared.faults.ConnectionFault.TheVariants.{Serving, Memory}
+use Rattle.lab_program_host.specs.declared.faults.ConnectionFault.TheVariants.{Serving, Memory}
 use Rattle.lab_program_serve.specs.Runs.{AreBrought, Brings, IsServedRun}
 use Rattle.lab_program_serve.specs.Visits.{AreVisits, Ending, GoesOn, OnServed, OnUnserved, Visit, is_unavailable}
 

@@ -2,12 +2,12 @@
 use Rattle.std.proofs.Common.{◌≡◌, inl, inr, ◌+◌, length, ℕ, List, [], ◌∷◌, ◌++◌, Option, Some, None, Result, Ok, Err, refl, sym, ap, subst, ◌∙◌, append_assoc, arith, ◌≤◌}
 use Rattle.std.specs.Prelude.{IfSome}
 use Rattle.std.proofs.lemmas.List.{length-append}
-use Rattle.lab_records_kept.specs.declared.keeper.Keeper.{Ghosts}
-use Rattle.lab_records_kept.specs.Worlds.{Passes, World}
+use Rattle.lab_records_keeper.specs.declared.keeper.Keeper.{Ghosts}
+use Rattle.lab_records_keeper.specs.Worlds.{Passes, World}
 use Rattle.lab_desk.specs.Desk.{Served}
-use Rattle.lab_desk_runs.specs.Keeping.{GivenWithin, Stays, StaysOn}
-use Rattle.lab_desk_runs.proofs.Lasting.{stays_after, stays_first, still_stays}
-use Rattle.lab_program_outside.specs.Sources.{Gives}
+use Rattle.lab_desk_events.specs.Keeping.{GivenWithin, Stays, StaysOn}
+use Rattle.lab_desk_events.proofs.Lasting.{stays_after, stays_first, still_stays}
+use Rattle.lab_program_host.specs.Sources.{Gives}
 use Rattle.lab_program_serve.specs.Times.{AreRefused, AreTimes, BeginWith, IsMended, IsMet, IsNext, IsRefused, IsServed, IsTime, ServesTimes, Time, visits_of}
 use Rattle.lab_program_serve.specs.Visits.{AreCounted, AreGiven, GoesOn, KeepsGiven, Sources, Visit, reply_after}
 use Rattle.lab_program_serve.proofs.VisitLemmas.{first_of, given_more, given_none, reply_last, sources_of, visits_more}
@@ -338,7 +338,7 @@ module _ {S : Type 0} (keeper : Ghosts S) (opened : S → Type 0) where
     given = subst (λ visits. KeepsGiven ending visits others) (sym c.so_far.all) given;
   }
 
-  -- ---- of an office that had a desk
+  -- ---- of a live desk that had a desk
 
   some_then : {A : Type 0} (P Q : A → Type 0) (x : Option A) → ((a : A) → P a → Q a) →
       IfSome x P → IfSome x Q

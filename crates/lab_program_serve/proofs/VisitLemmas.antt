@@ -1,10 +1,10 @@
 -- One connection more: it is handled after the others.
 use Rattle.std.proofs.Common.{◌≡◌, ℕ, List, [], ◌∷◌, ◌++◌, map, Option, Some, None, Ok, Err, refl, sym, ap, subst, ◌∙◌, append_assoc}
 use Rattle.std.proofs.lemmas.List.{map-append}
-use Rattle.lab_records_kept.specs.declared.keeper.Keeper.{Ghosts}
+use Rattle.lab_records_keeper.specs.declared.keeper.Keeper.{Ghosts}
 use Rattle.lab_desk_foundings.specs.declared.run_faults.ServeFault.TheVariants.{Read, Interim, Reply}
-use Rattle.lab_program_outside.specs.declared.faults.ConnectionFault.TheVariants.{Serving, Memory}
-use Rattle.lab_program_outside.specs.Sources.{Gives, drawing_of}
+use Rattle.lab_program_host.specs.declared.faults.ConnectionFault.TheVariants.{Serving, Memory}
+use Rattle.lab_program_host.specs.Sources.{Gives, drawing_of}
 use Rattle.lab_program_serve.specs.Visits.{AreFirst, AreGiven, AreVisits, Ending, IsFront, IsVisit, OnUnserved, Sources, Visit, reply_after}
 
 -- ---- what sources give

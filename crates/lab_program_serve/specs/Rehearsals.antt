@@ -7,8 +7,8 @@ use Rattle.lab_records_kept.specs.declared.labs.Lab.{Lab}
 use Rattle.lab_desk_foundings.specs.Faults.{FoundFaultFits}
 use Rattle.lab_desk_foundings.specs.Foundings.{IsNewborn, founding_in}
 use Rattle.lab_program_serve.specs.Visits.{Visit}
-use Rattle.lab_program_outside.specs.declared.faults.RehearsalFault.{RehearsalFault}
-use Rattle.lab_program_outside.specs.declared.faults.RehearsalFault.TheVariants.{Founding, Server}
+use Rattle.lab_program_host.specs.declared.faults.RehearsalFault.{RehearsalFault}
+use Rattle.lab_program_host.specs.declared.faults.RehearsalFault.TheVariants.{Founding, Server}
 
 -- the tick of a rehearsal at a moment: its words are the same each time
 abbrev pub rehearsal_tick : ℕ → Tick

@@ -3,10 +3,10 @@ use Rattle.std.specs.Prelude.{◌≡◌, ℕ, List, [], Option, Result, Ok, Err,
 use Rattle.std.specs.Io.KnownBytes.{Appends}
 use Rattle.lab_records_kept.specs.declared.labs.Lab.{Lab}
 use Rattle.lab_desk_foundings.specs.Foundings.{IsNewborn, founding_in}
-use Rattle.lab_program_outside.specs.Faults.{Tells, rehearsal_fault_word}
-use Rattle.lab_program_outside.specs.declared.faults.RehearsalFault.{RehearsalFault}
-use Rattle.lab_program_outside.specs.declared.faults.RehearsalFault.TheVariants.{Founding, Server}
-use Rattle.lab_program_outside.specs.TaskEnds.{TaskEnd}
+use Rattle.lab_program_host.specs.Faults.{Tells, rehearsal_fault_word}
+use Rattle.lab_program_host.specs.declared.faults.RehearsalFault.{RehearsalFault}
+use Rattle.lab_program_host.specs.declared.faults.RehearsalFault.TheVariants.{Founding, Server}
+use Rattle.lab_program_host.specs.TaskEnds.{TaskEnd}
 use Rattle.lab_program_serve.specs.Rehearsals.{IsUnfounded, rehearsal_tick}
 
 -- the body bears a laboratory where a reply was printed, and a refusal is that of its founding

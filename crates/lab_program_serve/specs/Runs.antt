@@ -1,11 +1,11 @@
 -- What is served between two openings is a run of an installation, as the one of `Desk::run`: its
 -- events are the requests that were handled (21 CFR 11.10(c); ISO/IEC 17025:2017, 7.11.3).
 use Rattle.std.specs.Prelude.{◌≡◌, ◌++◌, List, [], ◌∷◌, map}
-use Rattle.lab_records_kept.specs.Worlds.{World}
-use Rattle.lab_desk_runs.specs.Alone.{Request}
-use Rattle.lab_desk_runs.specs.Leaving.{LeavesRun}
-use Rattle.lab_desk_runs.specs.Requests.{Asks}
-use Rattle.lab_desk_runs.specs.Runs.{Handled, IsRun}
+use Rattle.lab_records_keeper.specs.Worlds.{World}
+use Rattle.lab_desk_events.specs.Alone.{Request}
+use Rattle.lab_desk_events.specs.Leaving.{LeavesRun}
+use Rattle.lab_desk_events.specs.Requests.{Asks}
+use Rattle.lab_desk_events.specs.Runs.{Handled, IsRun}
 use Rattle.lab_desk.specs.Serving.{AreAsked, Exchange}
 use Rattle.lab_program_serve.specs.Visits.{Ending, OnServed, OnUnserved, Visit}
 

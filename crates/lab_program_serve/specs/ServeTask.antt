@@ -1,11 +1,11 @@
 -- What the task `serve` comes to, by its status and what standard error was told.
 use Rattle.std.specs.Prelude.{ℕ, Option, Result, IfSome}
-use Rattle.lab_records_kept.specs.declared.keeper.Keeper.{Ghosts}
+use Rattle.lab_records_keeper.specs.declared.keeper.Keeper.{Ghosts}
 use Rattle.lab_desk.specs.Desk.{Served}
-use Rattle.lab_program_outside.specs.Faults.{Tells, server_fault_word}
-use Rattle.lab_program_outside.specs.Sources.{Drawing}
-use Rattle.lab_program_outside.specs.declared.faults.ServerFault.{ServerFault}
-use Rattle.lab_program_outside.specs.TaskEnds.{TaskEnd}
+use Rattle.lab_program_host.specs.Faults.{Tells, server_fault_word}
+use Rattle.lab_program_host.specs.Sources.{Drawing}
+use Rattle.lab_program_host.specs.declared.faults.ServerFault.{ServerFault}
+use Rattle.lab_program_host.specs.TaskEnds.{TaskEnd}
 use Rattle.lab_program_serve.specs.Texts.{IsAnnounced}
 use Rattle.lab_program_serve.specs.Times.{ServesTimes}
 use Rattle.lab_program_serve.specs.Visits.{listened}

@@ -1,7 +1,7 @@
 -- A keeper that a fault has shut: it tells of no laboratory, and refuses every call.
 use Rattle.std.specs.Prelude.{None}
-use Rattle.lab_records_kept.specs.declared.keeper.Keeper.{Ghosts}
-use Rattle.lab_records_kept.specs.Worlds.{World}
+use Rattle.lab_records_keeper.specs.declared.keeper.Keeper.{Ghosts}
+use Rattle.lab_records_keeper.specs.Worlds.{World}
 use Rattle.lab_program_serve.specs.declared.shut.Shut.{Shut}
 
 abbrev pub shut_world : World

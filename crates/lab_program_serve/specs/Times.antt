@@ -2,9 +2,9 @@
 -- Once that keeper no longer answers, it is given up, and before the next request one is opened
 -- anew; where none could be opened, that request is refused, and the next one tries again.
 use Rattle.std.specs.Prelude.{◌≡◌, ◌⊎◌, ◌++◌, ℕ, List, [], ◌∷◌, Option, Some, None, Result}
-use Rattle.lab_records_kept.specs.declared.keeper.Keeper.{Ghosts}
-use Rattle.lab_records_kept.specs.Worlds.{Passes}
-use Rattle.lab_desk_runs.specs.Keeping.{GivenWithin, Stays, StaysOn}
+use Rattle.lab_records_keeper.specs.declared.keeper.Keeper.{Ghosts}
+use Rattle.lab_records_keeper.specs.Worlds.{Passes}
+use Rattle.lab_desk_events.specs.Keeping.{GivenWithin, Stays, StaysOn}
 use Rattle.lab_desk.specs.Desk.{Served}
 use Rattle.lab_desk.specs.Serving.{HandlesRequest}
 use Rattle.lab_program_serve.specs.declared.shut.Shut.{Shut}

@@ -3,14 +3,14 @@
 use Rattle.std.specs.Prelude.{◌≡◌, ◌≤◌, ◌⊎◌, ◌++◌, ℕ, Bool, false, List, [], ◌∷◌, Option, None, Result, Ok, Err, IfSome, codes, length, map, nat_eq}
 use Rattle.std.specs.Io.KnownBytes.{Keeps}
 use Rattle.std.specs.List.{starts_with}
-use Rattle.lab_records_kept.specs.declared.keeper.Keeper.{Ghosts}
+use Rattle.lab_records_keeper.specs.declared.keeper.Keeper.{Ghosts}
 use Rattle.lab_wire_heads.specs.Interims.{interim_text}
-use Rattle.lab_desk_runs.specs.Keeping.{AreWithin}
+use Rattle.lab_desk_events.specs.Keeping.{AreWithin}
 use Rattle.lab_desk.specs.Answering.{Answers}
 use Rattle.lab_desk.specs.Serving.{Exchange, HandlesRequest, OnHandled, OnUnhandled, Writes}
-use Rattle.lab_program_outside.specs.declared.faults.ConnectionFault.{ConnectionFault}
-use Rattle.lab_program_outside.specs.declared.faults.ConnectionFault.TheVariants.{Serving, Memory}
-use Rattle.lab_program_outside.specs.Sources.{Drawing, Gives}
+use Rattle.lab_program_host.specs.declared.faults.ConnectionFault.{ConnectionFault}
+use Rattle.lab_program_host.specs.declared.faults.ConnectionFault.TheVariants.{Serving, Memory}
+use Rattle.lab_program_host.specs.Sources.{Drawing, Gives}
 
 -- how serving a connection ended
 abbrev pub Ending : Type 0

@@ -1,9 +1,9 @@
 //! Connections that come one after the other.
 
 ghost use Rattle.std.specs.Prelude.{◌≡◌, ℕ, List, [], ◌∷◌, Option, None, IfOk};
-ghost use Rattle.lab_program_outside.specs.Sources.{Gives};
+ghost use Rattle.lab_program_host.specs.Sources.{Gives};
 
-use lab_program_outside::ListenFault;
+use lab_program_host::ListenFault;
 use std::io::{Read, Write};
 
 /// A connection: what its client sends, and what goes to its client.

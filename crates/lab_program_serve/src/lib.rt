@@ -4,8 +4,8 @@
 #![tactic(auto)]
 
 mod connections;
+mod live_desks;
 mod loopback;
-mod offices;
 mod openings;
 mod rehearsal_loopback;
 mod rehearsals;
@@ -15,13 +15,13 @@ mod shut;
 
 pub use connections::{Connection, Connections};
 pub use lab_desk::{Desk, Keeper};
+pub use lab_forms_streams::WriteFault;
 pub use lab_forms_texts::{LabCode, Moment};
-pub use lab_program_outside::{
+pub use lab_program_host::{
     Chance, Clock, ConnectionFault, FoundFault, ListenFault, RehearsalFault, ServerFault,
 };
-pub use lab_wire_heads::WriteFault;
+pub use live_desks::LiveDesk;
 pub use loopback::{Listening, Rest, connect, listen, serve};
-pub use offices::Office;
 pub use openings::Opener;
 pub use rehearsal_loopback::rehearse;
 pub use rehearsals::{rehearse_over, request_bytes};

@@ -3,18 +3,18 @@
 ghost use Rattle.std.specs.Prelude.{◌≡◌, IfErr, IfSome};
 ghost use Rattle.lab_program_serve.specs.ServeTask.{IsServing};
 ghost use Rattle.lab_program_serve.specs.Texts.{IsAnnounced};
-ghost use Rattle.lab_program_outside.specs.declared.faults.ServerFault.TheVariants.{Read as NoneListened};
-ghost use Rattle.lab_program_outside.specs.Sources.{drawing_of};
+ghost use Rattle.lab_program_host.specs.declared.faults.ServerFault.TheVariants.{Read as NoneListened};
+ghost use Rattle.lab_program_host.specs.Sources.{drawing_of};
 ghost use Rattle.lab_program_serve.specs.Times.{ServesTimes};
 ghost use Rattle.lab_program_serve.specs.Visits.{listened};
 
 use crate::connections::{Connection, Connections};
-use crate::offices::Office;
+use crate::live_desks::LiveDesk;
 use crate::openings::Opener;
 use crate::serving::serve_over;
 use lab_desk::Keeper;
-use lab_program_outside::{Chance, Clock, Host, ListenFault, ServerFault, tell};
-use lab_wire_heads::WriteFault;
+use lab_forms_streams::WriteFault;
+use lab_program_host::{Chance, Clock, Host, ListenFault, ServerFault, tell};
 use std::io::{Error, ErrorKind, Read, Write};
 use std::net::{
     Ipv4Addr, Net, OpenListener, OpenStream, SocketAddr, SocketAddrV4, TcpListener, TcpStream,
@@ -196,7 +196,7 @@ pub fn connect<N: Net>(
 // Serves so many connections of a listener.
 fn serve_listener<N: Net, H, C: Clock, X: Chance, P, S: Keeper + Drop, O, L, W: Write>(
     host: &mut Host<'_, N, H, C, X, P>,
-    office: &mut Office<S, O>,
+    live_desk: &mut LiveDesk<S, O>,
     listener: L,
     count: u32,
     output: &mut W,
@@ -206,13 +206,13 @@ where
     L: OpenListener + Drop,
     L::Stream: Read + Write + OpenStream,
     ensures printed { IsAnnounced result (W.contents output.old) (W.contents output.new) }
-    ensures served { IfSome office.old (λ desk. O.opened desk.keeper →
+    ensures served { IfSome live_desk.old (λ desk. O.opened desk.keeper →
         ServesTimes S.Keeper O.opened desk.keeper result count (listened
         (drawing_of (C.coming host.old.clock) (C.coming host.new.clock)
         (X.coming host.old.chance) (X.coming host.new.chance)))) }
 {
     let mut listening = Listening::new(listener, Rest::new(host.net))?;
-    serve_over(host, office, &mut listening, count, output)
+    serve_over(host, live_desk, &mut listening, count, output)
 }
 
 /// `labdesk serve`: serves so many connections of a listener, as [`serve_over`] does, and tells on
@@ -223,7 +223,7 @@ where
 /// It stopped, and standard error failed before the whole line was told.
 pub fn serve<N: Net, H, C: Clock, X: Chance, P, S: Keeper + Drop, O, L, W: Write, E: Write>(
     host: &mut Host<'_, N, H, C, X, P>,
-    office: &mut Office<S, O>,
+    live_desk: &mut LiveDesk<S, O>,
     listener: L,
     count: u32,
     output: &mut W,
@@ -233,7 +233,7 @@ where
     O: Opener<H, S> + Drop,
     L: OpenListener + Drop,
     L::Stream: Read + Write + OpenStream,
-    ensures { IsServing S.Keeper O.opened office.old
+    ensures { IsServing S.Keeper O.opened live_desk.old
         (drawing_of (C.coming host.old.clock) (C.coming host.new.clock)
         (X.coming host.old.chance) (X.coming host.new.chance)) count (record {
           before = W.contents output.old;
@@ -243,7 +243,7 @@ where
           status = result;
         }) }
 {
-    match serve_listener(host, office, listener, count, output) {
+    match serve_listener(host, live_desk, listener, count, output) {
         Ok(()) => Ok(0),
         Err(fault) => {
             tell(errors, fault.word())?;

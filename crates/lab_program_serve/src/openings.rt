@@ -2,7 +2,7 @@
 
 ghost use Rattle.std.specs.Prelude.{IfOk};
 
-use lab_records_kept::KeeperFault;
+use lab_records_keeper::KeeperFault;
 use std::alloc::Global;
 
 /// Who opens a keeper that lies somewhere, and opens it anew once it doesn't answer.

@@ -6,9 +6,9 @@ ghost use Rattle.lab_program_serve.specs.RehearseTask.{FoundsBy, IsRehearsal, Pr
 
 use crate::rehearsals::{found_in_memory, rehearse_over};
 use crate::{Connections, Desk, Keeper, Listening, Rest, connect, listen};
+use lab_forms_streams::WriteFault;
 use lab_forms_texts::{LabCode, Moment};
-use lab_program_outside::{Host, RehearsalFault, ServerFault, tell};
-use lab_wire_heads::WriteFault;
+use lab_program_host::{Host, RehearsalFault, ServerFault, tell};
 use std::alloc::Global;
 use std::io::{Read, Write};
 use std::net::Net;

@@ -1,17 +1,17 @@
 //! A rehearsal: a laboratory is founded in memory, and asked for its card over a connection.
 
 ghost use Rattle.std.specs.Prelude.{◌≡◌, List, [], IfOk, IfErr, IfSome};
-ghost use Rattle.lab_records_kept.specs.Worlds.{Passes};
-ghost use Rattle.lab_desk_runs.specs.Keeping.{GivenWithin};
+ghost use Rattle.lab_records_keeper.specs.Worlds.{Passes};
+ghost use Rattle.lab_desk_events.specs.Keeping.{GivenWithin};
 ghost use Rattle.lab_program_serve.specs.Rehearsals.{Forwards, IsFounded, IsServedAt, IsUnfounded, card_request, rehearsal_tick};
 ghost use Rattle.lab_program_serve.specs.Texts.{IsPrinted};
 ghost use Rattle.lab_program_serve.specs.Visits.{AreVisits, IsStill, Visit};
 
 use crate::{Connection, Connections, Desk, Keeper, serve_connection};
+use lab_forms_streams::write_whole;
 use lab_forms_texts::{LabCode, Moment, OutOfMemory, Tick};
-use lab_program_outside::{RehearsalFault, ServerFault, read_all};
-use lab_records_lists::Lists;
-use lab_wire_heads::write_reply;
+use lab_program_host::{RehearsalFault, ServerFault, read_all};
+use lab_records_memory::Lists;
 use std::alloc::Global;
 use std::io::{Read, Write};
 
@@ -81,7 +81,7 @@ fn forward<R: Read, W: Write>(
         (W.contents output.old) (W.contents output.new) }
 {
     let bytes = read_all(alloc, reader)?;
-    write_reply(output, bytes.as_slice())?;
+    write_whole(output, bytes.as_slice())?;
     Ok(())
 }
 
@@ -111,7 +111,7 @@ pub fn rehearse_over<S: Keeper + Drop, A: Read, B: Write, L: Connections, W: Wri
     ensures passes { Passes (S.world desk.old.keeper) (S.world desk.new.keeper) }
 {
     let request = request_bytes(alloc, lab)?;
-    write_reply(&mut client.writer, request.as_slice())?;
+    write_whole(&mut client.writer, request.as_slice())?;
     let connection = connections.accept()?;
     let Connection { reader, mut writer } = connection;
     serve_connection(alloc, desk, reader, &mut writer, &tick_at(moment))?;

@@ -1,6 +1,6 @@
 //! The law of what is served between two openings. The function does nothing: its contract says the law.
 ghost use Rattle.std.specs.Prelude.{ℕ, List};
-ghost use Rattle.lab_desk_runs.specs.Keeping.{GivenWithin};
+ghost use Rattle.lab_desk_events.specs.Keeping.{GivenWithin};
 ghost use Rattle.lab_program_serve.specs.Runs.{IsServedRun};
 ghost use Rattle.lab_program_serve.specs.Visits.{AreVisits, GoesOn, Visit};
 

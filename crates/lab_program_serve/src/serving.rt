@@ -2,21 +2,21 @@
 
 ghost use Rattle.std.specs.Prelude.{◌≡◌, IfSome};
 ghost use Rattle.lab_wire_heads.specs.Interims.{interim_text};
-ghost use Rattle.lab_records_kept.specs.Worlds.{Passes};
-ghost use Rattle.lab_desk_runs.specs.Keeping.{GivenWithin, Stays};
+ghost use Rattle.lab_records_keeper.specs.Worlds.{Passes};
+ghost use Rattle.lab_desk_events.specs.Keeping.{GivenWithin, Stays};
 ghost use Rattle.lab_desk.specs.Serving.{HandlesRequest};
 ghost use Rattle.lab_program_serve.specs.Texts.{IsPrinted, listening_line};
-ghost use Rattle.lab_program_outside.specs.Sources.{drawing_of};
+ghost use Rattle.lab_program_host.specs.Sources.{drawing_of};
 ghost use Rattle.lab_program_serve.specs.Times.{ServesTimes};
 ghost use Rattle.lab_program_serve.specs.Visits.{OnServed, OnUnserved, Sends};
 
 use crate::connections::{Connection, Connections};
-use crate::offices::Office;
+use crate::live_desks::LiveDesk;
 use crate::openings::Opener;
 use lab_desk::{Desk, Keeper};
+use lab_forms_streams::write_whole;
 use lab_forms_texts::Tick;
-use lab_program_outside::{Chance, Clock, ConnectionFault, Host, ServerFault, draw};
-use lab_wire_heads::write_reply;
+use lab_program_host::{Chance, Clock, ConnectionFault, Host, ServerFault, draw};
 use std::alloc::Global;
 use std::io::{BufReader, Read, Write};
 
@@ -29,7 +29,7 @@ fn announce<W: Write>(alloc: Global, output: &mut W, port: u16) -> Result<(), Se
         (W.contents output.old) (W.contents output.new) }
 {
     let line = format!(in alloc; "listening 127.0.0.1:{port}\n")?;
-    write_reply(output, line.as_bytes())?;
+    write_whole(output, line.as_bytes())?;
     match output.flush() {
         Ok(()) => Ok(()),
         Err(_) => Err(ServerFault::Write),
@@ -74,7 +74,7 @@ pub fn serve_connection<S: Keeper + Drop, R: Read + Drop, W: Write>(
 /// source of random words failed: what was served before stands.
 pub fn serve_over<N, H, C: Clock, X: Chance, P, S: Keeper + Drop, O, L: Connections, W: Write>(
     host: &mut Host<'_, N, H, C, X, P>,
-    office: &mut Office<S, O>,
+    live_desk: &mut LiveDesk<S, O>,
     connections: &mut L,
     count: u32,
     output: &mut W,
@@ -83,7 +83,7 @@ where
     O: Opener<H, S> + Drop,
     ensures printed { IsPrinted (listening_line (L.listens_at connections.old)) result
         (W.contents output.old) (W.contents output.new) }
-    ensures served { IfSome office.old (λ desk. O.opened desk.keeper →
+    ensures served { IfSome live_desk.old (λ desk. O.opened desk.keeper →
         ServesTimes S.Keeper O.opened desk.keeper result count (record {
           coming = L.coming connections.old;
           left = L.coming connections.new;
@@ -96,7 +96,7 @@ where
         let connection = connections.accept()?;
         let tick = draw(&mut host.clock, &mut host.chance)?;
         let Connection { reader, mut writer } = connection;
-        let _ = office.visit(host.alloc, &mut host.shelf, reader, &mut writer, &tick);
+        let _ = live_desk.visit(host.alloc, &mut host.volume, reader, &mut writer, &tick);
     }
     Ok(())
 }

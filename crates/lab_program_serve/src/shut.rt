@@ -1,7 +1,8 @@
 //! A keeper that a fault has shut, and that could not be opened anew.
 
 use lab_forms_texts::{LabCode, Series};
-use lab_records_kept::{Change, Keeper, KeeperFault, Need, Newborn, PlacingFault, Slice};
+use lab_records_keeper::{Keeper, KeeperFault, PlacingFault};
+use lab_records_kept::{Change, Need, Newborn, Slice};
 
 /// A keeper that a fault has shut: it refuses every call.
 #[derive(Drop)]

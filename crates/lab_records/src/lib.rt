@@ -13,10 +13,10 @@ pub use lab_forms_texts::{
     Tick, Unit,
 };
 pub use lab_records_commands::opening_done;
+pub use lab_records_keeper::{BadStore, Keeper, KeeperFault, PlacingFault};
 pub use lab_records_kept::{
-    BadStore, Change, Counts, EntryRow, FormVersion, FormWanted, FoundRecord, Keeper, KeeperFault,
-    Lab, ListWanted, Need, Newborn, PlacingFault, Record, RecordWanted, Signature, Slice, TrailRow,
-    Version,
+    Change, Counts, EntryRow, FormVersion, FormWanted, FoundRecord, Lab, ListWanted, Need, Newborn,
+    Record, RecordWanted, Signature, Slice, TrailRow, Version,
 };
 pub use lab_records_machine::{
     AccountCommand, BirthRefusal, Command, Founder, Founding, Instruction, ReadingCommand,

@@ -10,4 +10,3 @@ pub mod Dual
 pub mod Keeping
 pub mod Births
 pub mod Faults
-pub mod Worlds

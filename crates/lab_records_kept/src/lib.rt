@@ -8,9 +8,7 @@
 mod births;
 mod changes;
 mod digests;
-mod faults;
 mod found;
-mod keeper;
 mod labs;
 mod laws;
 mod limits;
@@ -20,9 +18,7 @@ mod trails;
 
 pub use births::Newborn;
 pub use changes::Change;
-pub use faults::{BadStore, KeeperFault, PlacingFault};
 pub use found::{FoundRecord, place_of_version};
-pub use keeper::Keeper;
 pub use lab_forms::{Bound, Choices, Field, Form, FormRefusal, Kind, Value};
 pub use lab_forms_texts::Series;
 pub use lab_people_access::{Ask, Closing, Password, Person, Role, Roles, Session};

@@ -37,7 +37,8 @@ pub enum ListWanted {
     Trail { from: Ordinal, to: Ordinal },
 }
 
-/// Which part of a laboratory is needed. Nothing else is loaded.
+/// Which part of a laboratory is needed. Beside it, only the laboratory's code, name, last moment,
+/// strays and counts are loaded.
 pub struct Need {
     /// The session whose token has the digest, and the person of that session.
     pub token: Option<Digest>,

@@ -43,3 +43,8 @@ pub mod SigningFrame
 pub mod SigningStates
 pub mod SigningStep
 pub mod StayLemmas
+pub mod Rooms
+pub mod Cases
+pub mod KnownTelling
+pub mod Others
+pub mod Steps

@@ -4,3 +4,4 @@ pub mod Inspections
 pub mod Runs
 pub mod Stepping
 pub mod TakenSteps
+pub mod Telling

@@ -13,6 +13,7 @@ mod keeping;
 mod laws;
 mod limits;
 mod runs;
+mod telling;
 
 pub use births::{a_birth_is_right, a_laboratory_is_born_once};
 pub use bound::a_step_keeps_bound;
@@ -22,3 +23,4 @@ pub use keeping::a_step_keeps_what_was;
 pub use laws::what_is_decided;
 pub use limits::{a_form_is_asked_rightly, a_step_keeps_limits};
 pub use runs::a_run_is_right;
+pub use telling::a_step_is_told;

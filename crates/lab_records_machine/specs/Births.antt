@@ -12,10 +12,10 @@ use Rattle.lab_people_access.specs.Refusals.{people_refusal_entry}
 use Rattle.lab_people_access.specs.Roles.{no_roles, with_role}
 use Rattle.lab_people.specs.Accounts.{newcomer}
 use Rattle.lab_records_kept.specs.declared.labs.Lab.{Lab}
-use Rattle.lab_records_kept.specs.declared.faults.PlacingFault.TheVariants.{LabExists as IsThere}
+use Rattle.lab_records_keeper.specs.declared.faults.PlacingFault.TheVariants.{LabExists as IsThere}
 use Rattle.lab_records_kept.specs.declared.trails.Deed.TheVariants.{Found}
 use Rattle.lab_records_kept.specs.Changes.{added_person}
-use Rattle.lab_records_kept.specs.Faults.{placing_fault_entry}
+use Rattle.lab_records_keeper.specs.Faults.{placing_fault_entry}
 use Rattle.lab_records_kept.specs.Trails.{row_of}
 use Rattle.lab_records_machine.specs.declared.births.Founder.{Founder}
 use Rattle.lab_records_machine.specs.declared.births.Founding.{Founding}

@@ -8,7 +8,7 @@ use Rattle.lab_records_kept.specs.declared.changes.Change.{Change}
 use Rattle.lab_records_kept.specs.declared.labs.Lab.{Lab}
 use Rattle.lab_records_kept.specs.Births.{newborn_lab}
 use Rattle.lab_records_kept.specs.Changes.{ChangesFit}
-use Rattle.lab_records_kept.specs.Worlds.{Meaning, SameMeaning, Changes, Places}
+use Rattle.lab_records_keeper.specs.Worlds.{Meaning, SameMeaning, Changes, Places}
 use Rattle.lab_store_tables.specs.Rows.{Tables}
 use Rattle.lab_store_tables.specs.Meaning.{meaning}
 use Rattle.lab_store_tables.specs.WellKept.{IsWellKept, is_desk}

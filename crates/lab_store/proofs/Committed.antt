@@ -3,7 +3,7 @@ use Rattle.std.proofs.Common.{◌≡◌, ◌⊎◌, inl, inr, Result, Ok, Err, O
 use Rattle.sqlite_trees.specs.Tree.{Trees}
 use Rattle.sqlite.specs.Effect.{Database}
 use Rattle.sqlite.specs.State.{State, HasCleanDisk}
-use Rattle.lab_records_kept.specs.Worlds.{Meaning, SameMeaning, Leaves, Lives, CommitsAs, StaysSafe}
+use Rattle.lab_records_keeper.specs.Worlds.{Meaning, SameMeaning, Leaves, Lives, CommitsAs, StaysSafe}
 use Rattle.lab_store_tables.specs.Rows.{Tables, tables_in}
 use Rattle.lab_store_tables.specs.Meaning.{meaning}
 use Rattle.lab_store_tables.specs.WellKept.{IsWellKept}

@@ -3,7 +3,7 @@ use Rattle.std.proofs.Common.{◌≡◌, IsTrue, ap}
 use Rattle.sqlite_trees.specs.declared.store.Store.{Ghosts}
 use Rattle.sqlite_trees.specs.Tree.{Trees}
 use Rattle.sqlite.specs.Held.{Held, state}
-use Rattle.lab_records_walks.specs.Resting.{IsRead}
+use Rattle.lab_records_copy_out.specs.Resting.{IsRead}
 use Rattle.lab_store_tables.specs.Rows.{Tables}
 use Rattle.lab_store_tables.specs.Meaning.{meaning}
 use Rattle.lab_store_tables.specs.Ready.{PassesBy}

@@ -3,7 +3,7 @@
 use Rattle.std.proofs.Common.{◌≡◌, false, Some, None, refl, true≢false, sym, subst, ◌∙◌}
 use Rattle.std.specs.Prelude.{codes}
 use Rattle.sqlite.specs.State.{State}
-use Rattle.lab_records_kept.specs.Worlds.{Meaning}
+use Rattle.lab_records_keeper.specs.Worlds.{Meaning}
 use Rattle.lab_store_tables.specs.Rows.{Tables}
 use Rattle.lab_store_tables.specs.Meaning.{meaning}
 use Rattle.lab_store_tables.specs.Ready.{IsKept, tables_of}

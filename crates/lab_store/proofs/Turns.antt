@@ -2,9 +2,9 @@
 use Rattle.std.proofs.Common.{Result, Ok, Err, OnOk}
 use Rattle.sqlite.specs.State.{State, HasCleanDisk, IsUnchanged}
 use Rattle.lab_forms_texts.specs.declared.refusals.Fault.{Fault}
-use Rattle.lab_records_kept.specs.declared.faults.BadStore.{BadStore}
+use Rattle.lab_records_keeper.specs.declared.faults.BadStore.{BadStore}
 use Rattle.lab_forms_texts.specs.declared.refusals.Fault.TheVariants.{Refused, Memory}
-use Rattle.lab_records_kept.specs.Worlds.{Passes, Quiet, Shuts, StaysSafe, Lives, KeeperFaultFits}
+use Rattle.lab_records_keeper.specs.Worlds.{Passes, Quiet, Shuts, StaysSafe, Lives, KeeperFaultFits}
 use Rattle.lab_store_tables.specs.Ready.{IsReady, PassesBy, Shuts as ShutsBy}
 use Rattle.lab_store.specs.StoreWorlds.{world_of}
 

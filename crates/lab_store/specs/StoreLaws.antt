@@ -7,7 +7,7 @@ use Rattle.sqlite_trees.specs.Tree.{Trees}
 use Rattle.sqlite.specs.Effect.{Database}
 use Rattle.lab_records_kept.specs.declared.labs.Lab.{Lab}
 use Rattle.lab_records_kept.specs.declared.changes.Change.{Change}
-use Rattle.lab_records_kept.specs.Worlds.{Meaning, SameMeaning}
+use Rattle.lab_records_keeper.specs.Worlds.{Meaning, SameMeaning}
 use Rattle.lab_store_tables.specs.Rows.{LabRow, Tables, tables_in}
 use Rattle.lab_store_tables.specs.Meaning.{lab_in, has_code, meaning}
 use Rattle.lab_store_tables.specs.Ready.{IsKept}

@@ -3,14 +3,15 @@
 ghost use Rattle.std.specs.Prelude.{◌≡◌, Err, IsTrue};
 ghost use Rattle.sqlite.specs.Held.{state};
 ghost use Rattle.sqlite.specs.State.{HasCleanDisk};
-ghost use Rattle.lab_records_kept.specs.declared.faults.PlacingFault.TheVariants.{LabExists};
+ghost use Rattle.lab_records_keeper.specs.declared.faults.PlacingFault.TheVariants.{LabExists};
 ghost use Rattle.lab_store_tables.specs.Ready.{IsAtRest, IsReady};
 ghost use Rattle.lab_store.specs.Commits.{Ends};
 ghost use Rattle.lab_store.specs.Founding.{IsPlacedBy, IsTaken};
 
 use crate::places::{is_there, place};
 use crate::tables::Tables;
-use lab_records_kept::{Newborn, PlacingFault};
+use lab_records_keeper::PlacingFault;
+use lab_records_kept::Newborn;
 use lab_store_write_changes::{is_asked, laboratory};
 use sqlite::Alter;
 use std::alloc::Global;

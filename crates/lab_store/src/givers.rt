@@ -3,7 +3,7 @@
 use crate::store::Store;
 use lab_copy_rows::CopyOut;
 use lab_forms_texts::{LabCode, Ordinal};
-use lab_records_walks::{CopyOutFault, Progress, RecordGiver};
+use lab_records_copy_out::{CopyOutFault, Progress, RecordGiver};
 use sqlite::Alter;
 use std::alloc::Global;
 use std::io::Write;

@@ -15,9 +15,8 @@ pub use applying::apply;
 pub use founding::found;
 pub use givers::OneVersionAtATime;
 pub use lab_forms_texts::{Fault, OutOfMemory, RefusalKind};
-pub use lab_records_kept::{
-    BadStore, Change, Keeper, KeeperFault, LabCode, Need, Newborn, PlacingFault, Series, Slice,
-};
+pub use lab_records_keeper::{BadStore, Keeper, KeeperFault, PlacingFault};
+pub use lab_records_kept::{Change, LabCode, Need, Newborn, Series, Slice};
 pub use lab_store_files::{FileFault, create, open};
 pub use store::Store;
 pub use tables::Tables;

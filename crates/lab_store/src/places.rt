@@ -3,18 +3,19 @@
 ghost use Rattle.std.specs.Prelude.{◌≡◌, ◌≢◌, IfOk, IfErr, IsTrue, OnOk, find, is_some, slice_get};
 ghost use Rattle.sqlite.specs.Held.{state};
 ghost use Rattle.sqlite.specs.State.{HasCleanDisk, KeepsCommit, Survives};
-ghost use Rattle.lab_records_kept.specs.declared.faults.PlacingFault.TheVariants.{LabExists};
+ghost use Rattle.lab_records_keeper.specs.declared.faults.PlacingFault.TheVariants.{LabExists};
 ghost use Rattle.lab_store_tables.specs.Meaning.{has_code};
 ghost use Rattle.lab_store_tables.specs.Ready.{IsAtRest};
-ghost use Rattle.lab_store_columns.specs.Reads.{Reads};
+ghost use Rattle.lab_store_read.specs.Reads.{Reads};
 ghost use Rattle.lab_store_write.specs.Calls.{Steps};
 ghost use Rattle.lab_store.specs.Commits.{Ends};
 ghost use Rattle.lab_store_write_changes.specs.NewbornRows.{AddsRows};
 
 use crate::inside::Inside;
 use lab_forms_texts::LabCode;
-use lab_records_kept::{Lab, PlacingFault};
-use lab_store_columns::{ReadFault, Readable, read_fault};
+use lab_records_keeper::PlacingFault;
+use lab_records_kept::Lab;
+use lab_store_read::{ReadFault, Readable, read_fault};
 use lab_store_read_records::lab_rows;
 use lab_store_write_changes::add_rows;
 use sqlite::{Alter, Connection, Error, Row, Transaction};

@@ -2,7 +2,7 @@
 
 ghost use Rattle.sqlite.specs.Held.{state as state_held};
 
-use lab_store_columns::{ReadFault, Readable, read_fault};
+use lab_store_read::{ReadFault, Readable, read_fault};
 use sqlite::types::ValueRef;
 use sqlite::{Alter, Connection, Row};
 

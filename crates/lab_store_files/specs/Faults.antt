@@ -2,7 +2,7 @@
 -- is.
 use Rattle.std.specs.Prelude.{◌≡◌, ◌⊎◌, ℕ, Bool, true, false, if◌then◌else◌, codes, Option, Some, None, Result, Err}
 use Rattle.lab_forms_texts.specs.Faults.{Entry, memory_entry}
-use Rattle.lab_records_kept.specs.Faults.{storage_entry}
+use Rattle.lab_records_keeper.specs.Faults.{storage_entry}
 use Rattle.sqlite.specs.declared.error.Error.{Error}
 use Rattle.sqlite.specs.declared.error.Error.TheVariants.{SqliteFailure, SqlInputError}
 use Rattle.sqlite.specs.declared.error.ErrorCode.TheVariants as code

@@ -5,7 +5,7 @@ use Rattle.lab_records_kept.specs.declared.labs.Lab.{Lab}
 use Rattle.lab_records_kept.specs.declared.changes.Change.{Change}
 use Rattle.lab_records_kept.specs.declared.changes.Change.TheVariants.{Last, Strays, PersonAdded, PersonSet, SessionAdded, SessionSet, SessionsClosed, FormAdded, RecordAdded, RowAdded, VersionOpened, SignatureAdded, TrailAdded}
 use Rattle.lab_records_kept.specs.Changes.{changed_in, ChangesFit}
-use Rattle.lab_records_kept.specs.Worlds.{Meaning, Changes}
+use Rattle.lab_records_keeper.specs.Worlds.{Meaning, Changes}
 use Rattle.lab_store_tables.specs.Rows.{LabRow, Tables}
 use Rattle.lab_store_tables.specs.Meaning.{has_code, meaning}
 use Rattle.lab_store_tables.specs.WellKept.{is_desk, IsWellKept}

@@ -8,7 +8,7 @@ use Rattle.lab_people_access.specs.declared.sessions.Closing.{Closing}
 use Rattle.lab_people_access.specs.Sessions.{is_closed_by, closed_session, session_after, sessions_after}
 use Rattle.lab_records_kept.specs.declared.changes.Change.TheVariants.{SessionsClosed}
 use Rattle.lab_records_kept.specs.Changes.{change}
-use Rattle.lab_records_kept.specs.Worlds.{Changes}
+use Rattle.lab_records_keeper.specs.Worlds.{Changes}
 use Rattle.lab_store_tables.specs.Rows.{LabRow, SessionRow, Tables}
 use Rattle.lab_store_tables.specs.Meaning.{lab_in, has_code, meaning, session_in, by_session, sessions_of}
 use Rattle.lab_store_tables.specs.WellKept.{are_ids_unique}

@@ -19,7 +19,7 @@ use Rattle.lab_records_kept.specs.declared.records.Record.{Record}
 use Rattle.lab_records_kept.specs.Lookups.{last_form, next_form_version}
 use Rattle.lab_records_kept.specs.Lookups.{comes_before}
 use Rattle.lab_records_kept.specs.Changes.{added_form, change, ChangesFit}
-use Rattle.lab_records_kept.specs.Worlds.{Changes}
+use Rattle.lab_records_keeper.specs.Worlds.{Changes}
 use Rattle.lab_store_tables.specs.Rows.{LabRow, FormRow, FieldRow, ChoiceRow, RecordRow, Tables, lab_id, form_id, field_id}
 use Rattle.lab_store_tables.specs.Meaning.{lab_in, has_code, meaning, by_field, form_in, by_form, forms_of, form_at, leaves_of, chained, cover_in, record_in, by_record, records_of}
 use Rattle.lab_store_tables.specs.WellKept.{have_own_ids, AreWellKept}

@@ -12,7 +12,7 @@ use Rattle.lab_records_kept.specs.declared.trails.TrailRow.{TrailRow as Told}
 use Rattle.lab_records_kept.specs.declared.trails.Deed.TheVariants.{Found}
 use Rattle.lab_records_kept.specs.Births.{newborn_lab}
 use Rattle.lab_records_kept.specs.Trails.{row_of}
-use Rattle.lab_records_kept.specs.Worlds.{Places}
+use Rattle.lab_records_keeper.specs.Worlds.{Places}
 use Rattle.lab_store_tables.specs.Rows.{Tables, trail_id}
 use Rattle.lab_store_tables.specs.Meaning.{meaning}
 use Rattle.lab_store_tables.specs.WellKept.{same_person, are_ids_unique, are_keys_unique, are_arrows_whole, AreWellKept}

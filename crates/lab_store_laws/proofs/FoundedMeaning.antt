@@ -11,7 +11,7 @@ use Rattle.sqlite_keyed.proofs.ListLemmas.{all_of, all_weaker, filter_none}
 use Rattle.lab_records_kept.specs.declared.labs.Lab.{Lab}
 use Rattle.lab_records_kept.specs.declared.trails.TrailRow.{TrailRow as Told}
 use Rattle.lab_records_kept.specs.Lookups.{comes_before}
-use Rattle.lab_records_kept.specs.Worlds.{Places}
+use Rattle.lab_records_keeper.specs.Worlds.{Places}
 use Rattle.lab_store_tables.specs.Rows.{LabRow, PersonRow, SessionRow, FormRow, RecordRow, TrailRow, Tables, lab_id, person_id, trail_id}
 use Rattle.lab_store_tables.specs.Meaning.{person_in, by_code, persons_of, session_in, by_session, sessions_of, form_in, by_form, forms_of, record_in, by_record, records_of, told_in, by_trail, trail_of, lab_in, has_code, meaning}
 use Rattle.lab_store_tables.specs.WellKept.{same_person, have_parents}

@@ -11,7 +11,7 @@ use Rattle.lab_records_kept.specs.declared.labs.Lab.{Lab}
 use Rattle.lab_records_kept.specs.declared.changes.Change.{Change}
 use Rattle.lab_records_kept.specs.declared.changes.Change.TheVariants.{Last, Strays}
 use Rattle.lab_records_kept.specs.Changes.{change, changed_in}
-use Rattle.lab_records_kept.specs.Worlds.{Changes}
+use Rattle.lab_records_keeper.specs.Worlds.{Changes}
 use Rattle.lab_store_tables.specs.Rows.{LabRow, Tables, lab_id}
 use Rattle.lab_store_tables.specs.Meaning.{lab_in, has_code, meaning}
 use Rattle.lab_store_tables.specs.WellKept.{have_own_ids}

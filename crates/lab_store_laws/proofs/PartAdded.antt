@@ -12,7 +12,7 @@ use Rattle.lab_records_kept.specs.declared.records.Signature.{Signature}
 use Rattle.lab_records_kept.specs.declared.records.Version.{Version}
 use Rattle.lab_records_kept.specs.declared.changes.Change.TheVariants.{RowAdded, SignatureAdded}
 use Rattle.lab_records_kept.specs.Changes.{change, in_record, in_last, in_version, with_row, with_signature, entered_in, signed_in}
-use Rattle.lab_records_kept.specs.Worlds.{Changes}
+use Rattle.lab_records_keeper.specs.Worlds.{Changes}
 use Rattle.lab_store_tables.specs.Rows.{LabRow, RecordRow, VersionRow, Tables, version_id}
 use Rattle.lab_store_tables.specs.Meaning.{Leaf, lab_in, has_code, meaning, leaf_in, by_version, leaves_of, chained, cover_in, record_in, by_record, records_of}
 use Rattle.lab_store_tables.specs.WellKept.{AreWellKept}

@@ -16,7 +16,7 @@ use Rattle.lab_people_access.specs.Persons.{person_of}
 use Rattle.lab_records_kept.specs.declared.changes.Change.TheVariants.{PersonAdded}
 use Rattle.lab_records_kept.specs.Lookups.{comes_before}
 use Rattle.lab_records_kept.specs.Changes.{added_person, change, ChangesFit}
-use Rattle.lab_records_kept.specs.Worlds.{Changes}
+use Rattle.lab_records_keeper.specs.Worlds.{Changes}
 use Rattle.lab_store_tables.specs.Rows.{LabRow, PersonRow, Tables, person_id}
 use Rattle.lab_store_tables.specs.Meaning.{lab_in, has_code, meaning, code_of, person_in, by_code, persons_of}
 use Rattle.lab_store_tables.specs.WellKept.{AreWellKept}

@@ -12,7 +12,7 @@ use Rattle.sqlite_keyed.proofs.KeyedLemmas.{same_int}
 use Rattle.lab_people_access.specs.declared.persons.Person.{Person}
 use Rattle.lab_records_kept.specs.declared.changes.Change.TheVariants.{PersonSet}
 use Rattle.lab_records_kept.specs.Changes.{with_person, change}
-use Rattle.lab_records_kept.specs.Worlds.{Changes}
+use Rattle.lab_records_keeper.specs.Worlds.{Changes}
 use Rattle.lab_store_tables.specs.Rows.{LabRow, PersonRow, Tables, person_id}
 use Rattle.lab_store_tables.specs.Meaning.{lab_in, has_code, meaning, code_of, person_in, persons_of}
 use Rattle.lab_store_tables.specs.WellKept.{AreWellKept}

@@ -10,7 +10,7 @@ use Rattle.lab_records_kept.specs.declared.records.FormVersion.{FormVersion}
 use Rattle.lab_records_kept.specs.declared.records.Record.{Record}
 use Rattle.lab_records_kept.specs.declared.changes.Change.TheVariants.{RecordAdded}
 use Rattle.lab_records_kept.specs.Changes.{change, IsNewRecord, ChangesFit}
-use Rattle.lab_records_kept.specs.Worlds.{Changes}
+use Rattle.lab_records_keeper.specs.Worlds.{Changes}
 use Rattle.lab_store_tables.specs.Rows.{LabRow, RecordRow, VersionRow, Tables, record_id}
 use Rattle.lab_store_tables.specs.Meaning.{lab_in, has_code, meaning, by_version, leaves_of, leaf_in, version_after, chained, cover_in, record_in, by_record, records_of, form_at}
 use Rattle.lab_store_tables.specs.WellKept.{AreWellKept}

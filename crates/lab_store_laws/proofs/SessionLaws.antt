@@ -6,7 +6,7 @@ use Rattle.sqlite_keyed.specs.Lists.{sort_by}
 use Rattle.lab_people_access.specs.declared.sessions.Session.{Session}
 use Rattle.lab_records_kept.specs.declared.changes.Change.TheVariants.{SessionAdded}
 use Rattle.lab_records_kept.specs.Changes.{change}
-use Rattle.lab_records_kept.specs.Worlds.{Changes}
+use Rattle.lab_records_keeper.specs.Worlds.{Changes}
 use Rattle.lab_store_tables.specs.Rows.{LabRow, SessionRow, Tables, session_id}
 use Rattle.lab_store_tables.specs.Meaning.{lab_in, has_code, meaning, session_in, by_session, sessions_of}
 use Rattle.lab_store_tables.specs.WellKept.{are_ids_unique, are_all_numbered}

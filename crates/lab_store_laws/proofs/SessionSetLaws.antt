@@ -12,7 +12,7 @@ use Rattle.lab_people_access.specs.declared.sessions.Session.{Session}
 use Rattle.lab_people_access.specs.Sessions.{session_of}
 use Rattle.lab_records_kept.specs.declared.changes.Change.TheVariants.{SessionSet}
 use Rattle.lab_records_kept.specs.Changes.{with_session, SameSession, change, ChangesFit}
-use Rattle.lab_records_kept.specs.Worlds.{Changes}
+use Rattle.lab_records_keeper.specs.Worlds.{Changes}
 use Rattle.lab_store_tables.specs.Rows.{LabRow, SessionRow, Tables, session_id}
 use Rattle.lab_store_tables.specs.Meaning.{lab_in, has_code, meaning, session_in, by_session, sessions_of}
 use Rattle.lab_store_tables.specs.WellKept.{AreWellKept}

@@ -11,7 +11,7 @@ use Rattle.sqlite_keyed.proofs.KeyedLemmas.{same_int}
 use Rattle.lab_records_kept.specs.declared.trails.TrailRow.{TrailRow as Told}
 use Rattle.lab_records_kept.specs.declared.changes.Change.TheVariants.{TrailAdded}
 use Rattle.lab_records_kept.specs.Changes.{change}
-use Rattle.lab_records_kept.specs.Worlds.{Changes}
+use Rattle.lab_records_keeper.specs.Worlds.{Changes}
 use Rattle.lab_store_tables.specs.Rows.{LabRow, PersonRow, TrailRow, Tables, lab_id, person_id, trail_id}
 use Rattle.lab_store_tables.specs.Meaning.{lab_in, has_code, meaning, code_of, told_in, by_trail, trail_of}
 use Rattle.lab_store_tables.specs.WellKept.{have_own_ids, are_ids_unique, are_all_numbered}

@@ -14,7 +14,7 @@ use Rattle.lab_records_kept.specs.declared.records.Version.{Version}
 use Rattle.lab_records_kept.specs.declared.changes.Change.TheVariants.{VersionOpened}
 use Rattle.lab_records_kept.specs.Lookups.{has_number, record_of}
 use Rattle.lab_records_kept.specs.Changes.{change, in_record, opened_in, IsNewVersion, ChangesFit}
-use Rattle.lab_records_kept.specs.Worlds.{Changes}
+use Rattle.lab_records_keeper.specs.Worlds.{Changes}
 use Rattle.lab_store_tables.specs.Rows.{LabRow, RecordRow, VersionRow, Tables}
 use Rattle.lab_store_tables.specs.Meaning.{Leaf, lab_in, has_code, meaning, leaf_in, by_version, leaves_of, version_after, chained, cover_in, record_in, by_record, records_of}
 use Rattle.lab_store_tables.specs.WellKept.{same_record, AreWellKept}

@@ -3,7 +3,7 @@
 ghost use Rattle.std.specs.Prelude.{ℕ, List};
 ghost use Rattle.lab_records_kept.specs.declared.changes.Change.{Change};
 ghost use Rattle.lab_records_kept.specs.Changes.{ChangesFit};
-ghost use Rattle.lab_records_kept.specs.Worlds.{Changes};
+ghost use Rattle.lab_records_keeper.specs.Worlds.{Changes};
 ghost use Rattle.lab_store_tables.specs.Rows.{Tables};
 ghost use Rattle.lab_store_tables.specs.Meaning.{meaning};
 ghost use Rattle.lab_store_tables.specs.WellKept.{IsWellKept};

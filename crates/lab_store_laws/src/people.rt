@@ -6,7 +6,7 @@ ghost use Rattle.lab_people_access.specs.declared.sessions.Session.{Session};
 ghost use Rattle.lab_records_kept.specs.declared.records.FormVersion.{FormVersion};
 ghost use Rattle.lab_records_kept.specs.declared.changes.Change.TheVariants.{PersonAdded, PersonSet, SessionSet, FormAdded};
 ghost use Rattle.lab_records_kept.specs.Changes.{ChangesFit};
-ghost use Rattle.lab_records_kept.specs.Worlds.{Changes};
+ghost use Rattle.lab_records_keeper.specs.Worlds.{Changes};
 ghost use Rattle.lab_store_tables.specs.Rows.{Tables};
 ghost use Rattle.lab_store_tables.specs.Meaning.{meaning};
 ghost use Rattle.lab_store_tables.specs.WellKept.{AreWellKept};

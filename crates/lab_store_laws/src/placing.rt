@@ -1,7 +1,7 @@
 //! The law about the meaning of the rows of a laboratory that is founded.
 ghost use Rattle.lab_records_kept.specs.declared.births.Newborn.{Newborn};
 ghost use Rattle.lab_records_kept.specs.Births.{newborn_lab};
-ghost use Rattle.lab_records_kept.specs.Worlds.{Places};
+ghost use Rattle.lab_records_keeper.specs.Worlds.{Places};
 ghost use Rattle.lab_store_tables.specs.Rows.{Tables};
 ghost use Rattle.lab_store_tables.specs.Meaning.{meaning};
 ghost use Rattle.lab_store_tables.specs.WellKept.{AreWellKept};

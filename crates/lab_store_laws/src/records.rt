@@ -6,7 +6,7 @@ ghost use Rattle.lab_records_kept.specs.declared.records.Signature.{Signature};
 ghost use Rattle.lab_records_kept.specs.declared.records.Version.{Version};
 ghost use Rattle.lab_records_kept.specs.declared.changes.Change.TheVariants.{RecordAdded, RowAdded, VersionOpened, SignatureAdded};
 ghost use Rattle.lab_records_kept.specs.Changes.{ChangesFit};
-ghost use Rattle.lab_records_kept.specs.Worlds.{Changes};
+ghost use Rattle.lab_records_keeper.specs.Worlds.{Changes};
 ghost use Rattle.lab_store_tables.specs.Rows.{Tables};
 ghost use Rattle.lab_store_tables.specs.Meaning.{meaning};
 ghost use Rattle.lab_store_tables.specs.WellKept.{AreWellKept};

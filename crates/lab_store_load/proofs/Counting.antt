@@ -7,8 +7,8 @@ use Rattle.lab_records_kept.specs.declared.needs.Slice.{Slice}
 use Rattle.lab_store_tables.specs.Rows.{LabRow, Tables, lab_id, tables_in}
 use Rattle.lab_store_tables.specs.Meaning.{has_code, persons_of}
 use Rattle.lab_store_tables.specs.Ready.{IsAtRest, IsKept, IsReady, tables_of}
-use Rattle.lab_store_columns.specs.Reads.{Reads, MayRead}
-use Rattle.lab_store_columns.proofs.Queries.{if_then}
+use Rattle.lab_store_read.specs.Reads.{Reads, MayRead}
+use Rattle.lab_store_read.proofs.Queries.{if_then}
 use Rattle.lab_store_read_records.specs.declared.heads.LabHead.{LabHead}
 use Rattle.lab_store_load.specs.declared.counts.Counted.{Counted}
 use Rattle.lab_store_read_records.specs.Heads.{lab_head}

@@ -12,7 +12,7 @@ use Rattle.lab_records_kept.specs.declared.needs.RecordWanted.TheVariants.{Numbe
 use Rattle.lab_records_kept.specs.Lookups.{last_of, session_at}
 use Rattle.lab_store_tables.specs.Rows.{Tables}
 use Rattle.lab_store_tables.specs.Meaning.{has_code}
-use Rattle.lab_store_columns.specs.Causes.{HasFirst}
+use Rattle.lab_store_read.specs.Causes.{HasFirst}
 use Rattle.lab_store_read_people.specs.PersonsReadable.{HasWholePerson}
 use Rattle.lab_store_read_people.specs.PersonsShown.{person_shown_by, persons_shown}
 use Rattle.lab_store_read_people.specs.SessionsShown.{sessions_shown, HasSession}

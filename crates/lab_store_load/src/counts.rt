@@ -3,12 +3,12 @@
 ghost use Rattle.std.specs.Prelude.{◌≡◌, Some, IfSome, IsTrue, OnOk, length};
 ghost use Rattle.sqlite.specs.State.{HasCleanDisk};
 ghost use Rattle.lab_store_tables.specs.Meaning.{persons_of};
-ghost use Rattle.lab_store_columns.specs.Causes.{HasItsCause};
-ghost use Rattle.lab_store_columns.specs.Reads.{Reads, MayRead};
+ghost use Rattle.lab_store_read.specs.Causes.{HasItsCause};
+ghost use Rattle.lab_store_read.specs.Reads.{Reads, MayRead};
 ghost use Rattle.lab_store_load.specs.Counts.{IsCounted, IsOpenIn, lab_id_of};
 
 use lab_forms_texts::LabCode;
-use lab_store_columns::{ReadFault, Readable};
+use lab_store_read::{ReadFault, Readable};
 use lab_store_read_people::person_count;
 use lab_store_read_records::lab_at;
 use std::alloc::Global;

@@ -6,14 +6,14 @@ ghost use Rattle.lab_store_read_records.specs.Laboratories.{lab_by};
 ghost use Rattle.lab_store_load.specs.Counts.{IsCounted};
 ghost use Rattle.lab_store_load.specs.Lists.{counts_by, listed_by};
 ghost use Rattle.lab_store_load.specs.Readable.{HasListOf};
-ghost use Rattle.lab_store_columns.specs.Causes.{HasItsCause};
-ghost use Rattle.lab_store_columns.specs.Reads.{Reads, MayRead};
+ghost use Rattle.lab_store_read.specs.Causes.{HasItsCause};
+ghost use Rattle.lab_store_read.specs.Reads.{Reads, MayRead};
 
 use crate::counts::{Counted, persons_counted};
 use lab_forms_texts::{Ordinal, Series};
 use lab_people_access::Person;
 use lab_records_kept::{Counts, ListWanted, Record, TrailRow};
-use lab_store_columns::{ReadFault, Readable};
+use lab_store_read::{ReadFault, Readable};
 use lab_store_read_forms::filed_within;
 use lab_store_read_people::persons_at;
 use lab_store_read_records::LabHead;

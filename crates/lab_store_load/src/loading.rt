@@ -4,8 +4,8 @@ ghost use Rattle.std.specs.Prelude.{◌≡◌, None, find, option_map, IfSome, O
 ghost use Rattle.lab_records_kept.specs.Parts.{part_of};
 ghost use Rattle.lab_store_read_records.specs.Heads.{lab_head};
 ghost use Rattle.lab_store_tables.specs.Meaning.{has_code, meaning};
-ghost use Rattle.lab_store_columns.specs.Causes.{HasItsCause};
-ghost use Rattle.lab_store_columns.specs.Reads.{Reads, MayRead};
+ghost use Rattle.lab_store_read.specs.Causes.{HasItsCause};
+ghost use Rattle.lab_store_read.specs.Reads.{Reads, MayRead};
 ghost use Rattle.lab_store_load.specs.Counts.{IsCounted};
 ghost use Rattle.lab_store_load.specs.Readable.{HasPeople, HasThings, HasSlice, HasPart};
 ghost use Rattle.lab_store_load.specs.Parts.{slice_with, slice_counted, slice_by};
@@ -16,7 +16,7 @@ use crate::people::people_at;
 use crate::things::things_at;
 use lab_forms_texts::LabCode;
 use lab_records_kept::{Counts, Need, Slice};
-use lab_store_columns::{ReadFault, Readable};
+use lab_store_read::{ReadFault, Readable};
 use lab_store_read_records::{LabHead, lab_at};
 use std::alloc::Global;
 

@@ -5,14 +5,14 @@ ghost use Rattle.lab_records_kept.specs.Lookups.{session_at, person_at, caller_o
 ghost use Rattle.lab_store_read_records.specs.Laboratories.{lab_by};
 ghost use Rattle.lab_store_load.specs.People.{callers_by, people_by};
 ghost use Rattle.lab_store_load.specs.Readable.{HasSessionOf, HasPersonOf, HasCallerOf, HasCallers, HasPeople};
-ghost use Rattle.lab_store_columns.specs.Causes.{HasItsCause};
-ghost use Rattle.lab_store_columns.specs.Reads.{MayRead};
+ghost use Rattle.lab_store_read.specs.Causes.{HasItsCause};
+ghost use Rattle.lab_store_read.specs.Reads.{MayRead};
 
 use lab_forms_texts::PersonCode;
 use lab_people_access::{Person, Session};
 use lab_records_kept::Need;
 use lab_seal_hashes::Digest;
-use lab_store_columns::{ReadFault, Readable};
+use lab_store_read::{ReadFault, Readable};
 use lab_store_read_people::{person_at, session_at};
 use lab_store_read_records::LabHead;
 use std::alloc::Global;

@@ -5,11 +5,11 @@ ghost use Rattle.lab_records_kept.specs.Parts.{form_meant, record_meant};
 ghost use Rattle.lab_store_read_records.specs.Laboratories.{lab_by};
 ghost use Rattle.lab_store_load.specs.Things.{things_by};
 ghost use Rattle.lab_store_load.specs.Readable.{HasFormOf, HasFiledOf, HasThings};
-ghost use Rattle.lab_store_columns.specs.Causes.{HasItsCause};
-ghost use Rattle.lab_store_columns.specs.Reads.{Reads, MayRead};
+ghost use Rattle.lab_store_read.specs.Causes.{HasItsCause};
+ghost use Rattle.lab_store_read.specs.Reads.{Reads, MayRead};
 
 use lab_records_kept::{FormVersion, FormWanted, FoundRecord, Need, RecordWanted};
-use lab_store_columns::{ReadFault, Readable};
+use lab_store_read::{ReadFault, Readable};
 use lab_store_read_forms::{about_at, exact_form_at, last_form_at, numbered_at};
 use lab_store_read_records::LabHead;
 use std::alloc::Global;

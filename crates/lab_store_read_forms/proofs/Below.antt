@@ -6,7 +6,7 @@ use Rattle.std.proofs.lemmas.Option.{IfSome_then, same_Some}
 use Rattle.sqlite_value.specs.Order.{Row}
 use Rattle.sqlite_keyed.specs.Keyed.{get_by}
 use Rattle.lab_records_kept.specs.Lookups.{last_of}
-use Rattle.lab_store_columns.specs.Causes.{HasFirst}
+use Rattle.lab_store_read.specs.Causes.{HasFirst}
 use Rattle.lab_store_tables.specs.Rows.{Tables, form_id}
 use Rattle.lab_store_read_records.specs.declared.heads.RecordHead.{RecordHead}
 use Rattle.lab_store_read_records.specs.Readable.{HasRecord}

@@ -9,7 +9,7 @@ use Rattle.sqlite.proofs.Callers.{reads_as}
 use Rattle.lab_store_tables.specs.Schema.{lab_schema}
 use Rattle.lab_store_tables.specs.Rows.{FormRow, form_row, form_id, tables_in}
 use Rattle.lab_store_tables.specs.Ready.{IsKept}
-use Rattle.lab_store_columns.proofs.Sorted.{equal_ints, equal_texts, and_true, equal_numbers, only_answer, sorted_answer}
+use Rattle.lab_store_read.proofs.Sorted.{equal_ints, equal_texts, and_true, equal_numbers, only_answer, sorted_answer}
 use Rattle.lab_store_read_forms.specs.FormsByCode.{is_exact, exact_shown, is_of_code, form_versions_shown}
 use Rattle.lab_store_tables.specs.Meaning.{by_form}
 use Rattle.lab_store_tables.specs.Family.{Forms}

@@ -5,7 +5,7 @@ use Rattle.sqlite_tied.specs.Compute.{everything}
 use Rattle.sqlite.specs.Listing.{understood}
 use Rattle.sqlite_sql.specs.Query.{Query}
 use Rattle.sqlite_sql.specs.Term.{col}
-use Rattle.lab_store_columns.proofs.Texts.{Means, is_param}
+use Rattle.lab_store_read.proofs.Texts.{Means, is_param}
 use Rattle.sqlite_value.specs.Keys.{ascending}
 use Rattle.lab_store_read_forms.proofs.Texts.{form_query, form_names}
 

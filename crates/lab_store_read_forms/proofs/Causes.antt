@@ -4,8 +4,8 @@ use Rattle.sqlite_value.specs.declared.value.Value.TheVariants.{Int, Text}
 use Rattle.sqlite_sql.specs.Term.{col}
 use Rattle.sqlite_tied.specs.Compute.{everything}
 use Rattle.sqlite.specs.Listing.{understood}
-use Rattle.lab_store_columns.proofs.Causes.{Fits, fits_by}
-use Rattle.lab_store_columns.proofs.Texts.{own_query, is_param}
+use Rattle.lab_store_read.proofs.Causes.{Fits, fits_by}
+use Rattle.lab_store_read.proofs.Texts.{own_query, is_param}
 use Rattle.lab_store_read_forms.proofs.Texts.{form_text, form_query, field_text, field_columns}
 use Rattle.lab_store_read_forms.proofs.KindTexts.{name_text}
 use Rattle.lab_store_read_forms.proofs.ByCodeTexts.{exact_text, exact_query, form_versions_text, form_versions_query}

@@ -12,9 +12,9 @@ use Rattle.lab_store_tables.specs.Ready.{IsKept}
 use Rattle.lab_store_tables.specs.Family.{Forms, Fields}
 use Rattle.std.specs.Ordering.{int_eq, nat_cmp}
 use Rattle.sqlite_keyed.proofs.RuleLemmas.{at_most_one}
-use Rattle.lab_store_columns.proofs.Lists.{untied_in}
-use Rattle.lab_store_columns.proofs.Sorted.{equal_ints, and_true, by_one, only_answer, own_rows}
-use Rattle.lab_store_columns.proofs.Texts.{is_param}
+use Rattle.lab_store_read.proofs.Lists.{untied_in}
+use Rattle.lab_store_read.proofs.Sorted.{equal_ints, and_true, by_one, only_answer, own_rows}
+use Rattle.lab_store_read.proofs.Texts.{is_param}
 use Rattle.lab_store_read_forms.specs.Shown.{forms_shown, field_shown, fields_shown}
 use Rattle.lab_store_read_forms.proofs.Keys.{fields_apart}
 use Rattle.lab_store_read_forms.proofs.Texts.{form_text, form_query, form_means, field_text, field_columns, field_means}

@@ -7,9 +7,9 @@ use Rattle.lab_records_kept.specs.declared.records.Record.{Record}
 use Rattle.lab_store_tables.specs.Rows.{Tables}
 use Rattle.lab_store_tables.specs.Meaning.{form_at, leaves_of}
 use Rattle.lab_store_tables.specs.Ready.{tables_of}
-use Rattle.lab_store_columns.specs.Reads.{MayRead}
-use Rattle.lab_store_columns.proofs.Readers.{none_read, may_and, may_both}
-use Rattle.lab_store_columns.proofs.Loops.{HasPut, one_more}
+use Rattle.lab_store_read.specs.Reads.{MayRead}
+use Rattle.lab_store_read.proofs.Readers.{none_read, may_and, may_both}
+use Rattle.lab_store_read.proofs.Loops.{HasPut, one_more}
 use Rattle.lab_store_read_records.specs.declared.heads.RecordHead.{RecordHead}
 use Rattle.lab_store_read_forms.specs.declared.heads.FormAt.{FormAt}
 use Rattle.lab_store_read_forms.specs.FormsBehind.{form_with_id, IsAtItsId, IsFiledBehind}

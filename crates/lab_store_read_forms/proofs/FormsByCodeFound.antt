@@ -13,13 +13,13 @@ use Rattle.lab_store_tables.specs.WellKept.{IsWellKept}
 use Rattle.lab_store_tables.specs.Meaning.{form_in, forms_of, by_form}
 use Rattle.lab_store_read_forms.specs.Forms.{form_by}
 use Rattle.lab_store_read_forms.specs.Shown.{form_shown, form_read}
-use Rattle.lab_store_columns.proofs.Lists.{both_filtered}
-use Rattle.lab_store_columns.proofs.Finds.{found_alone}
+use Rattle.lab_store_read.proofs.Lists.{both_filtered}
+use Rattle.lab_store_read.proofs.Finds.{found_alone}
 use Rattle.lab_store_read_forms.proofs.FormsFound.{form_back}
 use Rattle.lab_store_read_forms.specs.FormsByCode.{is_exact, exact_shown, is_of_code, form_versions_shown}
 use Rattle.lab_store_read_forms.proofs.ByCodeKeys.{forms_apart}
 use Rattle.lab_store_read_forms.proofs.Lists.{alone_version}
-use Rattle.lab_store_columns.proofs.Orders.{filter_sorted}
+use Rattle.lab_store_read.proofs.Orders.{filter_sorted}
 
 form_total : IsTotalOrder by_form
 form_total = then_total (on_total (λ (one : FormRow). one.code) nat_list_cmp_total) (on_total (λ (one : FormRow). one.version) nat_cmp_total)

@@ -2,7 +2,7 @@
 use Rattle.sqlite_keyed.specs.Rules.{AreApart}
 use Rattle.lab_store_tables.specs.Rows.{Tables}
 use Rattle.lab_store_tables.specs.WellKept.{IsWellKept, same_field}
-use Rattle.lab_store_columns.proofs.Keys.{apart, left, right, four}
+use Rattle.lab_store_read.proofs.Keys.{apart, left, right, four}
 
 module _ (t : Tables) (kept : IsWellKept t) where
   pub fields_apart : AreApart same_field t.fields

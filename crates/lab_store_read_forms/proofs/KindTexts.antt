@@ -3,7 +3,7 @@ use Rattle.std.proofs.Common.{ℕ, List, [], ◌∷◌, codes, refl}
 use Rattle.sqlite_tied.specs.Compute.{everything}
 use Rattle.sqlite.specs.Listing.{understood}
 use Rattle.sqlite_sql.specs.Term.{col}
-use Rattle.lab_store_columns.proofs.Texts.{Means, is_param, own_query}
+use Rattle.lab_store_read.proofs.Texts.{Means, is_param, own_query}
 
 abbrev pub name_text : List ℕ
 name_text = codes "SELECT name FROM choices WHERE field = ?1 ORDER BY place"

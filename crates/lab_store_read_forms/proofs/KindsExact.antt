@@ -11,9 +11,9 @@ use Rattle.lab_store_tables.specs.Schema.{lab_schema}
 use Rattle.lab_store_tables.specs.Rows.{ChoiceRow, tables_in, choice_row, choice_id}
 use Rattle.lab_store_tables.specs.Ready.{IsKept}
 use Rattle.lab_store_tables.specs.Family.{Choices}
-use Rattle.lab_store_columns.proofs.Lists.{untied_in}
-use Rattle.lab_store_columns.proofs.Sorted.{equal_ints, and_true, by_one, own_rows}
-use Rattle.lab_store_columns.proofs.Texts.{is_param}
+use Rattle.lab_store_read.proofs.Lists.{untied_in}
+use Rattle.lab_store_read.proofs.Sorted.{equal_ints, and_true, by_one, own_rows}
+use Rattle.lab_store_read.proofs.Texts.{is_param}
 use Rattle.lab_store_read_forms.specs.KindsShown.{name_shown, names_shown}
 use Rattle.lab_store_read_forms.proofs.KindKeys.{choices_apart}
 use Rattle.lab_store_read_forms.proofs.KindTexts.{name_text, name_means}

@@ -4,7 +4,7 @@ use Rattle.sqlite_tied.specs.Compute.{everything}
 use Rattle.sqlite.specs.Listing.{understood}
 use Rattle.sqlite_sql.specs.Query.{Query, inner, end}
 use Rattle.sqlite_sql.specs.Term.{Term, col}
-use Rattle.lab_store_columns.proofs.Texts.{Means, is_param, record_query, own_query}
+use Rattle.lab_store_read.proofs.Texts.{Means, is_param, record_query, own_query}
 
 -- ---- a version of a form by its id
 

@@ -9,8 +9,8 @@ use Rattle.sqlite_value.specs.declared.value.Value.TheVariants.{Null, Int, Real,
 use Rattle.sqlite_value.specs.Order.{Row}
 use Rattle.lab_forms_texts.specs.declared.refusals.Fault.{Fault}
 use Rattle.lab_forms_texts.specs.declared.refusals.Fault.TheVariants.{Refused, Memory}
-use Rattle.lab_records_kept.specs.declared.faults.BadStore.{BadStore}
-use Rattle.lab_store_columns.specs.Cells.{storage, is_optional, stands, IsNotRead, IsNotMade}
+use Rattle.lab_records_keeper.specs.declared.faults.BadStore.{BadStore}
+use Rattle.lab_store_read.specs.Cells.{storage, is_optional, stands, IsNotRead, IsNotMade}
 
 module _ (is_one : Value → Bool) (row : Row) (at : ℕ) where
   no_value : (o : Option Value) → IsFalse (option_map_or (is_optional is_one) o false) → ¬ IsTrue (option_map_or is_one o false)

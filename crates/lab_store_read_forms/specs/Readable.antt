@@ -8,7 +8,7 @@ use Rattle.lab_forms_texts.specs.Ordinals.{is_ordinal}
 use Rattle.lab_forms.specs.Forms.{is_form}
 use Rattle.lab_store_tables.specs.Rows.{Tables}
 use Rattle.lab_store_tables.specs.Meaning.{fields_of, leaves_of}
-use Rattle.lab_store_columns.specs.Cells.{is_id, is_number, is_small, is_text, is_optional, stands}
+use Rattle.lab_store_read.specs.Cells.{is_id, is_number, is_small, is_text, is_optional, stands}
 use Rattle.lab_store_read_records.specs.declared.heads.RecordHead.{RecordHead}
 use Rattle.lab_store_read_records.specs.Readable.{HasRecord, HasWholeVersion, ArePlaced}
 use Rattle.lab_store_read_records.specs.Shown.{versions_shown, record_read}

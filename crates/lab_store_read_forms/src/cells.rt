@@ -4,12 +4,12 @@ ghost use Rattle.std.specs.Prelude.{◌≡◌, IfOk, IfErr};
 ghost use Rattle.sqlite_value.specs.Order.{column, bytes};
 ghost use Rattle.sqlite_value.specs.declared.value.Value.TheVariants.{Text as StoredText};
 ghost use Rattle.lab_store_tables.specs.Rows.{optional_in};
-ghost use Rattle.lab_store_columns.specs.Cells.{is_text, is_optional, stands, IsNotMade};
+ghost use Rattle.lab_store_read.specs.Cells.{is_text, is_optional, stands, IsNotMade};
 ghost use Rattle.lab_store_read_forms.specs.Readable.{is_any};
 
 use lab_forms::Bound;
-use lab_store_columns::cells::cell_of;
-use lab_store_columns::{BadStore, ReadFault};
+use lab_store_read::cells::cell_of;
+use lab_store_read::{BadStore, ReadFault};
 use sqlite::Row;
 use sqlite::types::ValueRef;
 use std::alloc::Global;

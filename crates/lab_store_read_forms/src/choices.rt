@@ -2,16 +2,16 @@
 
 ghost use Rattle.std.specs.Prelude.{◌≡◌, [], map, All, IfOk, IfErr, if◌then◌else◌};
 ghost use Rattle.lab_store_tables.specs.Meaning.{names_of};
-ghost use Rattle.lab_store_columns.specs.Causes.{HasItsCause};
-ghost use Rattle.lab_store_columns.specs.Cells.{storage};
-ghost use Rattle.lab_store_columns.specs.Reads.{Reads, MayRead};
+ghost use Rattle.lab_store_read.specs.Causes.{HasItsCause};
+ghost use Rattle.lab_store_read.specs.Cells.{storage};
+ghost use Rattle.lab_store_read.specs.Reads.{Reads, MayRead};
 ghost use Rattle.lab_store_read_forms.specs.KindsShown.{names_shown, name_read};
 ghost use Rattle.lab_store_read_forms.specs.Readable.{HasName, HasNames};
 
 use lab_forms_texts::Name;
-use lab_store_columns::asking::rows_by_one;
-use lab_store_columns::cells::text_of;
-use lab_store_columns::{ReadFault, Readable};
+use lab_store_read::asking::rows_by_one;
+use lab_store_read::cells::text_of;
+use lab_store_read::{ReadFault, Readable};
 use sqlite::Row;
 use std::alloc::Global;
 

@@ -2,9 +2,9 @@
 
 ghost use Rattle.std.specs.Prelude.{◌≡◌, [], ◌∷◌, ◌++◌, map, All, IfOk, IfErr};
 ghost use Rattle.lab_store_tables.specs.Meaning.{fields_of};
-ghost use Rattle.lab_store_columns.specs.Causes.{HasItsCause};
-ghost use Rattle.lab_store_columns.specs.Cells.{storage};
-ghost use Rattle.lab_store_columns.specs.Reads.{Reads, MayRead};
+ghost use Rattle.lab_store_read.specs.Causes.{HasItsCause};
+ghost use Rattle.lab_store_read.specs.Cells.{storage};
+ghost use Rattle.lab_store_read.specs.Reads.{Reads, MayRead};
 ghost use Rattle.lab_store_read_forms.specs.Forms.{field_heads_of, field_by};
 ghost use Rattle.lab_store_read_forms.specs.Readable.{HasField, HasWholeField, HasNames};
 ghost use Rattle.lab_store_read_forms.specs.Shown.{fields_shown, field_read};
@@ -15,9 +15,9 @@ use crate::choices::names_if;
 use crate::heads::FieldHead;
 use crate::kinds::{is_choice, kind_of_row, kind_with};
 use lab_forms::Field;
-use lab_store_columns::asking::rows_by_one;
-use lab_store_columns::cells::{flag_of, id_of, text_of};
-use lab_store_columns::{ReadFault, Readable};
+use lab_store_read::asking::rows_by_one;
+use lab_store_read::cells::{flag_of, id_of, text_of};
+use lab_store_read::{ReadFault, Readable};
 use sqlite::Row;
 use std::alloc::Global;
 

@@ -4,8 +4,8 @@ ghost use Rattle.std.specs.Prelude.{◌≡◌, [], ◌∷◌, ◌++◌, map, opt
 ghost use Rattle.lab_records_kept.specs.Lookups.{record_of, record_about};
 ghost use Rattle.lab_records_kept.specs.Lookups.{records_within};
 ghost use Rattle.lab_store_tables.specs.Meaning.{leaves_of, records_of};
-ghost use Rattle.lab_store_columns.specs.Causes.{HasItsCause, HasFirst};
-ghost use Rattle.lab_store_columns.specs.Reads.{Reads, MayRead};
+ghost use Rattle.lab_store_read.specs.Causes.{HasItsCause, HasFirst};
+ghost use Rattle.lab_store_read.specs.Reads.{Reads, MayRead};
 ghost use Rattle.lab_store_read_records.specs.Retrieved.{abouts_shown, within_shown};
 ghost use Rattle.lab_store_read_records.specs.Shown.{records_shown};
 ghost use Rattle.lab_store_read_forms.specs.FormsBehind.{IsAtItsId, IsFiledBehind};
@@ -17,7 +17,7 @@ use crate::heads::FormAt;
 use crate::wholes::{record_by_form, record_whole};
 use lab_forms_texts::{Key, LabCode, Name, Ordinal};
 use lab_records_kept::{FormVersion, FoundRecord, Record};
-use lab_store_columns::{ReadFault, Readable};
+use lab_store_read::{ReadFault, Readable};
 use lab_store_read_records::{RecordHead, record_about, record_at, records_within};
 use std::alloc::Global;
 

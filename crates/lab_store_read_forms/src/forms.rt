@@ -4,9 +4,9 @@ ghost use Rattle.std.specs.Prelude.{◌≡◌, option_map, slice_get, IfOk, IfEr
 ghost use Rattle.sqlite_keyed.specs.Keyed.{get_by};
 ghost use Rattle.lab_store_tables.specs.Rows.{form_id};
 ghost use Rattle.lab_store_tables.specs.Meaning.{form_at};
-ghost use Rattle.lab_store_columns.specs.Causes.{HasItsCause, HasFirst};
-ghost use Rattle.lab_store_columns.specs.Cells.{storage};
-ghost use Rattle.lab_store_columns.specs.Reads.{Reads};
+ghost use Rattle.lab_store_read.specs.Causes.{HasItsCause, HasFirst};
+ghost use Rattle.lab_store_read.specs.Cells.{storage};
+ghost use Rattle.lab_store_read.specs.Reads.{Reads};
 ghost use Rattle.lab_forms.specs.Forms.{is_form};
 ghost use Rattle.lab_store_read_forms.specs.Forms.{form_head, form_by};
 ghost use Rattle.lab_store_read_forms.specs.Readable.{HasForm, HasFields, HasFormAt};
@@ -16,9 +16,9 @@ use crate::fields::fields_at;
 use crate::heads::FormHead;
 use lab_forms::{Field, Form};
 use lab_records_kept::FormVersion;
-use lab_store_columns::asking::rows_by_one;
-use lab_store_columns::cells::{flag_of, id_of, ordinal_of, text_of};
-use lab_store_columns::{BadStore, ReadFault, Readable};
+use lab_store_read::asking::rows_by_one;
+use lab_store_read::cells::{flag_of, id_of, ordinal_of, text_of};
+use lab_store_read::{BadStore, ReadFault, Readable};
 use sqlite::Row;
 use std::alloc::Global;
 

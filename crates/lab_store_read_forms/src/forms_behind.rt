@@ -2,14 +2,14 @@
 //! record before.
 
 ghost use Rattle.std.specs.Prelude.{◌≡◌, IfSome};
-ghost use Rattle.lab_store_columns.specs.Causes.{HasItsCause};
-ghost use Rattle.lab_store_columns.specs.Reads.{Reads, MayRead};
+ghost use Rattle.lab_store_read.specs.Causes.{HasItsCause};
+ghost use Rattle.lab_store_read.specs.Reads.{Reads, MayRead};
 ghost use Rattle.lab_store_read_forms.specs.FormsBehind.{IsAtItsId, form_with_id};
 ghost use Rattle.lab_store_read_forms.specs.Readable.{HasFormAt};
 
 use crate::form_at;
 use crate::heads::FormAt;
-use lab_store_columns::{ReadFault, Readable};
+use lab_store_read::{ReadFault, Readable};
 use std::alloc::Global;
 
 // The version of a form with the id.

@@ -3,9 +3,9 @@
 ghost use Rattle.std.specs.Prelude.{◌≡◌, option_map, IfOk, IfErr, IfSome};
 ghost use Rattle.lab_records_kept.specs.Lookups.{last_of, last_form, exact_form};
 ghost use Rattle.lab_store_tables.specs.Meaning.{forms_of};
-ghost use Rattle.lab_store_columns.specs.Causes.{HasItsCause, HasFirst};
-ghost use Rattle.lab_store_columns.specs.Cells.{storage};
-ghost use Rattle.lab_store_columns.specs.Reads.{Reads, MayRead};
+ghost use Rattle.lab_store_read.specs.Causes.{HasItsCause, HasFirst};
+ghost use Rattle.lab_store_read.specs.Cells.{storage};
+ghost use Rattle.lab_store_read.specs.Reads.{Reads, MayRead};
 ghost use Rattle.lab_store_read_forms.specs.Forms.{form_by};
 ghost use Rattle.lab_store_read_forms.specs.Readable.{HasForm, HasFields, HasWholeForm};
 ghost use Rattle.lab_store_read_forms.specs.Shown.{form_read};
@@ -16,8 +16,8 @@ use crate::asking::rows_by_version;
 use crate::{FormHead, first_form, form_of_row, form_whole};
 use lab_forms_texts::{Key, Ordinal};
 use lab_records_kept::FormVersion;
-use lab_store_columns::asking::rows_by_code;
-use lab_store_columns::{ReadFault, Readable};
+use lab_store_read::asking::rows_by_code;
+use lab_store_read::{ReadFault, Readable};
 use sqlite::Row;
 use std::alloc::Global;
 

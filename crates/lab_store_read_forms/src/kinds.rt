@@ -5,14 +5,14 @@ ghost use Rattle.lab_store_tables.specs.Columns.{kind_in};
 ghost use Rattle.lab_forms.specs.declared.kinds.Kind.TheVariants.{Text as text_kind};
 ghost use Rattle.lab_store_read_forms.specs.Kinds.{number_kind, is_choice, kind_with};
 ghost use Rattle.lab_store_read_forms.specs.KindsShown.{kind_cells};
-ghost use Rattle.lab_store_columns.specs.Cells.{storage};
+ghost use Rattle.lab_store_read.specs.Cells.{storage};
 ghost use Rattle.lab_store_read_forms.specs.Readable.{HasNumber, HasSize, IsOfKind, HasKind};
 
 use crate::cells::bound_if;
 use lab_forms::{Choices, Kind};
 use lab_forms_texts::{Keys, Name, Text};
-use lab_store_columns::cells::{small_if, text_if, text_of};
-use lab_store_columns::{BadStore, ReadFault};
+use lab_store_read::cells::{small_if, text_if, text_of};
+use lab_store_read::{BadStore, ReadFault};
 use sqlite::Row;
 use std::alloc::Global;
 

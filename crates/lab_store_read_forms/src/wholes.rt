@@ -4,16 +4,16 @@ ghost use Rattle.std.specs.Prelude.{◌≡◌, map, false, IfOk, IfErr};
 ghost use Rattle.lab_store_tables.specs.Meaning.{leaves_of};
 ghost use Rattle.lab_store_read_records.specs.Leaves.{leaf_of};
 ghost use Rattle.lab_store_read_forms.specs.Wholes.{record_with, record_by};
-ghost use Rattle.lab_store_columns.specs.Causes.{HasItsCause};
-ghost use Rattle.lab_store_columns.specs.Cells.{storage};
-ghost use Rattle.lab_store_columns.specs.Reads.{Reads};
+ghost use Rattle.lab_store_read.specs.Causes.{HasItsCause};
+ghost use Rattle.lab_store_read.specs.Cells.{storage};
+ghost use Rattle.lab_store_read.specs.Reads.{Reads};
 ghost use Rattle.lab_store_read_records.specs.Readable.{ArePlaced};
 ghost use Rattle.lab_store_read_forms.specs.Readable.{HasParts};
 
 use crate::form_at;
 use lab_forms_texts::{LabCode, Series};
 use lab_records_kept::{FormVersion, FoundRecord, Record};
-use lab_store_columns::{ReadFault, Readable};
+use lab_store_read::{ReadFault, Readable};
 use lab_store_read_records::{RecordHead, VersionLeaf, chain, leaves_at};
 use std::alloc::Global;
 

@@ -6,9 +6,9 @@ use Rattle.sqlite_value.specs.Order.{Row}
 use Rattle.sqlite_tied.specs.Compute.{everything}
 use Rattle.sqlite.specs.Listing.{understood}
 use Rattle.lab_store_tables.specs.Rows.{Tables}
-use Rattle.lab_store_columns.specs.Causes.{HasFirst}
-use Rattle.lab_store_columns.proofs.Causes.{Fits, fits_by}
-use Rattle.lab_store_columns.proofs.Texts.{is_param, own_query}
+use Rattle.lab_store_read.specs.Causes.{HasFirst}
+use Rattle.lab_store_read.proofs.Causes.{Fits, fits_by}
+use Rattle.lab_store_read.proofs.Texts.{is_param, own_query}
 use Rattle.lab_store_read_people.specs.Heads.{person_heads_of}
 use Rattle.lab_store_read_people.specs.PersonsShown.{persons_shown, person_read}
 use Rattle.lab_store_read_people.specs.PersonsReadable.{HasPerson, HasAsker, HasWholePerson}

@@ -5,7 +5,7 @@ use Rattle.sqlite_tied.specs.Listing.{count_rows, first_column}
 use Rattle.sqlite.specs.Listing.{understood}
 use Rattle.sqlite_sql.specs.Query.{Query, inner, end}
 use Rattle.sqlite_sql.specs.Term.{Term, col}
-use Rattle.lab_store_columns.proofs.Texts.{Means, is_param, record_query, own_query}
+use Rattle.lab_store_read.proofs.Texts.{Means, is_param, record_query, own_query}
 
 -- ---- a person by the code, and all persons
 

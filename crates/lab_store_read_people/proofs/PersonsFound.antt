@@ -10,12 +10,12 @@ use Rattle.lab_store_tables.specs.Columns.{password_in}
 use Rattle.lab_store_tables.specs.WellKept.{IsWellKept}
 use Rattle.lab_store_tables.specs.Changes.{is_person}
 use Rattle.lab_store_tables.specs.Meaning.{person_in, persons_of, by_code}
-use Rattle.lab_store_columns.proofs.Finds.{found_alone}
+use Rattle.lab_store_read.proofs.Finds.{found_alone}
 use Rattle.lab_store_read_people.specs.Heads.{ask_head, person_head, person_heads_of, ask_by, person_by}
 use Rattle.lab_store_read_people.specs.PersonsShown.{person_shown, person_shown_by, persons_shown, person_read, password_cells, ask_cells}
 use Rattle.lab_store_read_people.proofs.PersonKeys.{persons_apart}
-use Rattle.lab_store_columns.proofs.Lists.{alone_texts}
-use Rattle.lab_store_columns.proofs.Found.{flag_back, number_back, blob_back, id_back}
+use Rattle.lab_store_read.proofs.Lists.{alone_texts}
+use Rattle.lab_store_read.proofs.Found.{flag_back, number_back, blob_back, id_back}
 
 password_back : (one : PersonRow) → password_cells (person_shown one) ≡ one.password
 password_back one = λ i. record {

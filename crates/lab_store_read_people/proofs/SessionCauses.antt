@@ -3,7 +3,7 @@ use Rattle.std.proofs.Common.{ℕ, ℤ, List, [], ◌∷◌, refl, lit≤}
 use Rattle.sqlite_value.specs.declared.value.Value.TheVariants.{Int, Blob}
 use Rattle.sqlite_tied.specs.Compute.{everything}
 use Rattle.sqlite.specs.Listing.{understood}
-use Rattle.lab_store_columns.proofs.Causes.{Fits, fits_by}
+use Rattle.lab_store_read.proofs.Causes.{Fits, fits_by}
 use Rattle.lab_store_read_people.proofs.SessionTexts.{session_text, session_query}
 
 pub session_fits : (lab : ℤ) (token : List ℕ) → Fits session_text session_query (Int lab ∷ Blob token ∷ [])

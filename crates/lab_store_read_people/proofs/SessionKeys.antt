@@ -6,7 +6,7 @@ use Rattle.sqlite_keyed.specs.Rules.{AreApart}
 use Rattle.sqlite_keyed.proofs.ListLemmas.{all_from_test}
 use Rattle.lab_store_tables.specs.Rows.{SessionRow, Tables, person_id}
 use Rattle.lab_store_tables.specs.WellKept.{IsWellKept, same_token}
-use Rattle.lab_store_columns.proofs.Keys.{apart, left, right, four}
+use Rattle.lab_store_read.proofs.Keys.{apart, left, right, four}
 
 module _ (t : Tables) (kept : IsWellKept t) where
   pub tokens_apart : AreApart same_token t.sessions

@@ -7,7 +7,7 @@ use Rattle.sqlite_sql.specs.Query.{Query}
 use Rattle.sqlite_sql.specs.Term.{Term, col, op2}
 use Rattle.sqlite_sql.specs.declared.ops.BinaryOp.TheVariants.{Compare}
 use Rattle.sqlite_sql.specs.declared.ops.CompareOp.TheVariants.{Eq}
-use Rattle.lab_store_columns.proofs.Texts.{Means, is_param, children_query}
+use Rattle.lab_store_read.proofs.Texts.{Means, is_param, children_query}
 
 -- ---- a session by its token, with the code of its person
 

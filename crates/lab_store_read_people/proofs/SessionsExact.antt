@@ -16,8 +16,8 @@ use Rattle.lab_store_tables.specs.Rows.{PersonRow, SessionRow, tables_in, person
 use Rattle.lab_store_tables.specs.Ready.{IsKept}
 use Rattle.lab_store_tables.specs.Changes.{is_session}
 use Rattle.lab_store_tables.specs.Family.{Persons, Sessions}
-use Rattle.lab_store_columns.proofs.Sorted.{equal_ints, and_true, only_answer}
-use Rattle.lab_store_columns.proofs.Lists.{at_id, joined, alone_texts}
+use Rattle.lab_store_read.proofs.Sorted.{equal_ints, and_true, only_answer}
+use Rattle.lab_store_read.proofs.Lists.{at_id, joined, alone_texts}
 use Rattle.lab_store_read_people.specs.SessionsShown.{sessions_shown}
 use Rattle.lab_store_read_people.proofs.SessionKeys.{tokens_apart, workers}
 use Rattle.lab_store_read_people.proofs.SessionTexts.{session_text, session_query, session_columns, session_means}

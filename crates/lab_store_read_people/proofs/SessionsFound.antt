@@ -9,11 +9,11 @@ use Rattle.lab_store_tables.specs.Rows.{SessionRow, Tables}
 use Rattle.lab_store_tables.specs.WellKept.{IsWellKept}
 use Rattle.lab_store_tables.specs.Changes.{is_session}
 use Rattle.lab_store_tables.specs.Meaning.{session_in, sessions_of, by_session}
-use Rattle.lab_store_columns.proofs.Finds.{found_alone}
+use Rattle.lab_store_read.proofs.Finds.{found_alone}
 use Rattle.lab_store_read_people.specs.SessionsShown.{session_shown, sessions_shown, session_read}
 use Rattle.lab_store_read_people.proofs.SessionKeys.{tokens_apart}
-use Rattle.lab_store_columns.proofs.Lists.{alone_texts}
-use Rattle.lab_store_columns.proofs.Found.{flag_back}
+use Rattle.lab_store_read.proofs.Lists.{alone_texts}
+use Rattle.lab_store_read.proofs.Found.{flag_back}
 
 session_back : (t : Tables) (one : SessionRow) → session_read (session_shown t one) ≡ session_in t one
 session_back t one = λ i. record (session_in t one) { closed = flag_back one.closed i; signed = flag_back one.signed i }

@@ -3,7 +3,7 @@ use Rattle.std.specs.Prelude.{ℕ, Bool, false, List, [], ◌∷◌, slice_get}
 use Rattle.std.specs.Option.{option_map_or}
 use Rattle.sqlite_value.specs.Order.{Row}
 use Rattle.sqlite_sql.specs.Aggregate.{count}
-use Rattle.lab_store_columns.specs.Cells.{is_id, stands}
+use Rattle.lab_store_read.specs.Cells.{is_id, stands}
 
 -- how many there are, as the store counts
 abbrev pub count_shown : ℕ → List Row

@@ -9,8 +9,8 @@ use Rattle.lab_forms_texts.specs.Moment.{is_moment}
 use Rattle.lab_forms_texts.specs.Names.{is_name, is_person_code}
 use Rattle.lab_people_access.specs.Passwords.{are_rounds}
 use Rattle.lab_store_tables.specs.Rows.{Tables, number_in, optional_in}
-use Rattle.lab_store_columns.specs.Cells.{is_id, is_number, is_small, is_text, is_digest, is_optional, stands}
-use Rattle.lab_store_columns.specs.Shown.{codes_shown, shows_code}
+use Rattle.lab_store_read.specs.Cells.{is_id, is_number, is_small, is_text, is_digest, is_optional, stands}
+use Rattle.lab_store_read.specs.Shown.{codes_shown, shows_code}
 use Rattle.lab_store_read_people.specs.declared.heads.AskHead.{AskHead}
 use Rattle.lab_store_read_people.specs.declared.heads.PersonHead.{PersonHead}
 use Rattle.lab_store_read_people.specs.PersonsShown.{person_read}

@@ -9,7 +9,7 @@ use Rattle.lab_people_access.specs.declared.sessions.Session.{Session}
 use Rattle.lab_store_tables.specs.Rows.{SessionRow, Tables, number, flag, number_in, flag_in}
 use Rattle.lab_store_tables.specs.Changes.{is_session}
 use Rattle.lab_store_tables.specs.Meaning.{code_of}
-use Rattle.lab_store_columns.specs.Cells.{is_number, is_small, is_text, is_digest, stands}
+use Rattle.lab_store_read.specs.Cells.{is_number, is_small, is_text, is_digest, stands}
 
 abbrev pub session_shown : Tables → SessionRow → Row
 session_shown t one =

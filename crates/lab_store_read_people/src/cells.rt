@@ -4,12 +4,12 @@ ghost use Rattle.std.specs.Prelude.{◌≡◌, Some, [], IfOk, IfErr, unwrap_or,
 ghost use Rattle.sqlite_value.specs.Order.{column, bytes};
 ghost use Rattle.lab_forms_texts.specs.Moment.{is_moment};
 ghost use Rattle.lab_store_tables.specs.Rows.{number, optional, number_in, optional_in};
-ghost use Rattle.lab_store_columns.specs.Cells.{is_number, is_small, is_digest, is_optional, stands, IsNotRead};
+ghost use Rattle.lab_store_read.specs.Cells.{is_number, is_small, is_digest, is_optional, stands, IsNotRead};
 ghost use Rattle.lab_store_read_people.specs.PersonsReadable.{is_salt};
 
 use lab_forms_texts::Moment;
-use lab_store_columns::cells::{cell_of, moment_of, small_if};
-use lab_store_columns::{BadStore, ReadFault};
+use lab_store_read::cells::{cell_of, moment_of, small_if};
+use lab_store_read::{BadStore, ReadFault};
 use sqlite::Row;
 use sqlite::types::ValueRef;
 

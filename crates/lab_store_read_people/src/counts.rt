@@ -3,14 +3,14 @@
 ghost use Rattle.std.specs.Prelude.{◌≡◌, ◌<◌, Some, length, slice_get, option_and_then, IfOk, IfErr};
 ghost use Rattle.lab_store_tables.specs.Rows.{number};
 ghost use Rattle.lab_store_tables.specs.Meaning.{persons_of};
-ghost use Rattle.lab_store_columns.specs.Causes.{HasItsCause};
-ghost use Rattle.lab_store_columns.specs.Cells.{is_id, stands, IsNotMade};
-ghost use Rattle.lab_store_columns.specs.Reads.{Reads};
+ghost use Rattle.lab_store_read.specs.Causes.{HasItsCause};
+ghost use Rattle.lab_store_read.specs.Cells.{is_id, stands, IsNotMade};
+ghost use Rattle.lab_store_read.specs.Reads.{Reads};
 ghost use Rattle.lab_store_read_people.specs.CountsShown.{count_shown, shows_number};
 
-use lab_store_columns::asking::rows_by_one;
-use lab_store_columns::cells::id_of;
-use lab_store_columns::{BadStore, ReadFault, Readable};
+use lab_store_read::asking::rows_by_one;
+use lab_store_read::cells::id_of;
+use lab_store_read::{BadStore, ReadFault, Readable};
 use sqlite::Row;
 
 // The number of the persons of the laboratory with the id, in one row.

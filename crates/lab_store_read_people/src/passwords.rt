@@ -7,7 +7,7 @@ ghost use Rattle.lab_people_access.specs.declared.passwords.Password.TheVariants
 ghost use Rattle.lab_people_access.specs.Passwords.{are_rounds};
 ghost use Rattle.lab_store_tables.specs.Rows.{number_in, optional_in};
 ghost use Rattle.lab_store_tables.specs.Columns.{roles_in, verifier_in, password_in};
-ghost use Rattle.lab_store_columns.specs.Cells.{storage};
+ghost use Rattle.lab_store_read.specs.Cells.{storage};
 ghost use Rattle.lab_store_read_people.specs.Heads.{ask_head};
 ghost use Rattle.lab_store_read_people.specs.PersonsReadable.{HasVerifier, HasChosen, HasOneTime, HasPassword, HasAsk};
 ghost use Rattle.lab_store_read_people.specs.PersonsShown.{password_cells, ask_cells};
@@ -16,8 +16,8 @@ use crate::cells::{bytes_due, moment_due, salt_due, small_due};
 use crate::heads::AskHead;
 use lab_people_access::{Password, Roles, are_rounds};
 use lab_seal_hashes::Verifier;
-use lab_store_columns::cells::{id_if, small_of};
-use lab_store_columns::{BadStore, ReadFault};
+use lab_store_read::cells::{id_if, small_of};
+use lab_store_read::{BadStore, ReadFault};
 use sqlite::Row;
 
 /// Returns the roles that a sum stands for.

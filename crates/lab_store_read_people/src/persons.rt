@@ -3,9 +3,9 @@
 ghost use Rattle.std.specs.Prelude.{◌≡◌, [], ◌∷◌, ◌++◌, map, option_map, slice_get, All, IfOk, IfErr, IfSome};
 ghost use Rattle.lab_people_access.specs.Persons.{person_of};
 ghost use Rattle.lab_store_tables.specs.Meaning.{persons_of};
-ghost use Rattle.lab_store_columns.specs.Causes.{HasItsCause, HasFirst};
-ghost use Rattle.lab_store_columns.specs.Cells.{storage};
-ghost use Rattle.lab_store_columns.specs.Reads.{Reads, MayRead};
+ghost use Rattle.lab_store_read.specs.Causes.{HasItsCause, HasFirst};
+ghost use Rattle.lab_store_read.specs.Cells.{storage};
+ghost use Rattle.lab_store_read.specs.Reads.{Reads, MayRead};
 ghost use Rattle.lab_store_read_people.specs.Heads.{ask_by, person_by, person_heads_of};
 ghost use Rattle.lab_store_read_people.specs.PersonsReadable.{HasPerson, HasCode, HasAsker, HasWholePerson};
 ghost use Rattle.lab_store_read_people.specs.PersonsShown.{person_shown_by, persons_shown, person_read};
@@ -15,9 +15,9 @@ use crate::heads::{AskHead, PersonHead};
 use crate::passwords::{ask_of_row, password_of_row, roles_of};
 use lab_forms_texts::PersonCode;
 use lab_people_access::{Ask, Person};
-use lab_store_columns::asking::{rows_by_code, rows_by_one};
-use lab_store_columns::cells::{flag_of, small_of, text_of};
-use lab_store_columns::{ReadFault, Readable, code_at};
+use lab_store_read::asking::{rows_by_code, rows_by_one};
+use lab_store_read::cells::{flag_of, small_of, text_of};
+use lab_store_read::{ReadFault, Readable, code_at};
 use sqlite::Row;
 use std::alloc::Global;
 

@@ -3,16 +3,16 @@
 ghost use Rattle.std.specs.Prelude.{◌≡◌, option_map, slice_get, IfOk, IfErr};
 ghost use Rattle.lab_people_access.specs.Sessions.{session_of};
 ghost use Rattle.lab_store_tables.specs.Meaning.{sessions_of};
-ghost use Rattle.lab_store_columns.specs.Causes.{HasItsCause, HasFirst};
-ghost use Rattle.lab_store_columns.specs.Cells.{storage};
-ghost use Rattle.lab_store_columns.specs.Reads.{Reads};
+ghost use Rattle.lab_store_read.specs.Causes.{HasItsCause, HasFirst};
+ghost use Rattle.lab_store_read.specs.Cells.{storage};
+ghost use Rattle.lab_store_read.specs.Reads.{Reads};
 ghost use Rattle.lab_store_read_people.specs.SessionsShown.{sessions_shown, session_read, HasSession};
 
 use crate::asking::rows_by_token;
 use lab_people_access::Session;
 use lab_seal_hashes::Digest;
-use lab_store_columns::cells::{digest_of, flag_of, moment_of, ordinal_of, text_of};
-use lab_store_columns::{ReadFault, Readable};
+use lab_store_read::cells::{digest_of, flag_of, moment_of, ordinal_of, text_of};
+use lab_store_read::{ReadFault, Readable};
 use sqlite::Row;
 use std::alloc::Global;
 

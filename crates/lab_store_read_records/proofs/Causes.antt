@@ -3,8 +3,8 @@ use Rattle.std.proofs.Common.{ℕ, ℤ, pos, List, [], ◌∷◌, refl, lit≤}
 use Rattle.sqlite_value.specs.declared.value.Value.TheVariants.{Int, Text}
 use Rattle.sqlite_tied.specs.Compute.{everything}
 use Rattle.sqlite.specs.Listing.{understood}
-use Rattle.lab_store_columns.proofs.Causes.{Fits, fits_by}
-use Rattle.lab_store_columns.proofs.Texts.{record_query, children_query, own_query, is_param, range_tests}
+use Rattle.lab_store_read.proofs.Causes.{Fits, fits_by}
+use Rattle.lab_store_read.proofs.Texts.{record_query, children_query, own_query, is_param, range_tests}
 use Rattle.lab_store_read_records.proofs.RetrievalTexts.{about_text, about_query, within_text, within_columns}
 use Rattle.lab_store_read_records.proofs.Texts.{lab_text, lab_query, child_tests, entry_text, entry_columns, signature_text, signature_columns, version_text}
 use Rattle.lab_store_read_records.proofs.Texts.{version_columns, record_text}

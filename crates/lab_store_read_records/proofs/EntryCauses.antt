@@ -5,7 +5,7 @@ use Rattle.std.proofs.lemmas.List.Elements.{All-nil, All-cons, All-head, All-tai
 use Rattle.sqlite_keyed.specs.Lists.{sort_by}
 use Rattle.lab_store_tables.specs.Rows.{EntryRow, Tables}
 use Rattle.lab_store_tables.specs.Meaning.{by_entry}
-use Rattle.lab_store_columns.proofs.Found.{code_there}
+use Rattle.lab_store_read.proofs.Found.{code_there}
 use Rattle.lab_store_read_records.specs.Heads.{entry_head, entry_heads_of}
 use Rattle.lab_store_read_records.specs.Readable.{HasEntry, HasOwnEntry, HasWriter}
 use Rattle.lab_store_read_records.specs.Shown.{entry_shown, entries_shown, own_entry_shown, own_entries_shown}

@@ -4,7 +4,7 @@ use Rattle.sqlite_keyed.proofs.ListLemmas.{slice_get-filter, map-map, map_same}
 use Rattle.lab_store_tables.specs.Rows.{LabRow, RecordRow, VersionRow, EntryRow, SignatureRow, Tables}
 use Rattle.lab_store_tables.specs.Columns.{meaning_in}
 use Rattle.lab_store_tables.specs.Meaning.{has_code, entries_of, signature_in, signatures_of}
-use Rattle.lab_store_columns.proofs.Found.{text_back}
+use Rattle.lab_store_read.proofs.Found.{text_back}
 use Rattle.lab_store_read_records.specs.Heads.{lab_head, is_record, record_head, version_head, versions_of, entry_head, entry_heads_of, entry_by}
 use Rattle.lab_seal_versions.specs.declared.rows.EntryRow.{EntryRow as Entry}
 use Rattle.lab_records_kept.specs.declared.records.Signature.{Signature}

@@ -6,7 +6,7 @@ use Rattle.sqlite_keyed.specs.Rules.{AreApart}
 use Rattle.sqlite_keyed.proofs.ListLemmas.{all_from_test}
 use Rattle.lab_store_tables.specs.Rows.{VersionRow, SignatureRow, Tables, person_id}
 use Rattle.lab_store_tables.specs.WellKept.{IsWellKept, same_lab, same_record, same_version, same_entry, same_signature}
-use Rattle.lab_store_columns.proofs.Keys.{apart, left, right, two, four}
+use Rattle.lab_store_read.proofs.Keys.{apart, left, right, two, four}
 
 module _ (t : Tables) (kept : IsWellKept t) where
   pub labs_apart : AreApart same_lab t.labs

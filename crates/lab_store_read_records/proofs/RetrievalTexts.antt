@@ -4,7 +4,7 @@ use Rattle.sqlite_tied.specs.Compute.{everything}
 use Rattle.sqlite.specs.Listing.{understood}
 use Rattle.sqlite_sql.specs.Query.{Query}
 use Rattle.sqlite_sql.specs.Term.{Term, col}
-use Rattle.lab_store_columns.proofs.Texts.{Means, is_param, record_query, own_query, range_tests}
+use Rattle.lab_store_read.proofs.Texts.{Means, is_param, record_query, own_query, range_tests}
 use Rattle.lab_store_read_records.proofs.Texts.{record_names}
 
 -- ---- a record by its form and its sample

@@ -8,7 +8,7 @@ use Rattle.sqlite_sql.specs.Query.{Query, inner, end}
 use Rattle.sqlite_sql.specs.Term.{Term, lit, col, op2}
 use Rattle.sqlite_sql.specs.declared.ops.BinaryOp.TheVariants.{Compare}
 use Rattle.sqlite_sql.specs.declared.ops.CompareOp.TheVariants.{Eq}
-use Rattle.lab_store_columns.proofs.Texts.{Means, is_param, record_query, children_query, own_query}
+use Rattle.lab_store_read.proofs.Texts.{Means, is_param, record_query, children_query, own_query}
 
 -- ---- a laboratory by its code
 

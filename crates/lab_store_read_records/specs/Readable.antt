@@ -8,8 +8,8 @@ use Rattle.lab_forms_texts.specs.Names.{is_lab_code, is_person_code, is_key, is_
 use Rattle.lab_forms_texts.specs.Ordinals.{is_ordinal}
 use Rattle.lab_store_tables.specs.Rows.{Tables, optional_in}
 use Rattle.lab_store_tables.specs.Meaning.{Leaf}
-use Rattle.lab_store_columns.specs.Cells.{is_id, is_number, is_small, is_text, is_digest, is_optional, stands}
-use Rattle.lab_store_columns.specs.Shown.{codes_shown, shows_code}
+use Rattle.lab_store_read.specs.Cells.{is_id, is_number, is_small, is_text, is_digest, is_optional, stands}
+use Rattle.lab_store_read.specs.Shown.{codes_shown, shows_code}
 use Rattle.lab_store_read_records.specs.declared.heads.EntryHead.{EntryHead}
 use Rattle.lab_store_read_records.specs.Shown.{version_read, entries_shown, signatures_shown}
 

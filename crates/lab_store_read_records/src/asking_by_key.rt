@@ -2,9 +2,9 @@
 
 ghost use Rattle.std.specs.Prelude.{[], ◌∷◌};
 ghost use Rattle.sqlite_value.specs.declared.value.Value.TheVariants.{Int, Text};
-ghost use Rattle.lab_store_columns.specs.Reads.{Asks};
+ghost use Rattle.lab_store_read.specs.Reads.{Asks};
 
-use lab_store_columns::{ReadFault, Readable};
+use lab_store_read::{ReadFault, Readable};
 use sqlite::{Row, params};
 
 /// The rows of a query with an id and two texts.

@@ -3,11 +3,11 @@
 ghost use Rattle.std.specs.Prelude.{◌≡◌, IfOk, IfErr};
 ghost use Rattle.sqlite_value.specs.Order.{column};
 ghost use Rattle.lab_store_tables.specs.Rows.{number_in};
-ghost use Rattle.lab_store_columns.specs.Cells.{is_number, stands, IsNotRead};
+ghost use Rattle.lab_store_read.specs.Cells.{is_number, stands, IsNotRead};
 ghost use Rattle.lab_store_read_records.specs.Readable.{is_count};
 
-use lab_store_columns::cells::id_of;
-use lab_store_columns::{BadStore, ReadFault};
+use lab_store_read::cells::id_of;
+use lab_store_read::{BadStore, ReadFault};
 use sqlite::Row;
 
 /// Returns the number in a column, which is never below zero.

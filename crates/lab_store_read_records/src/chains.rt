@@ -4,7 +4,7 @@ ghost use Rattle.std.specs.Prelude.{◌≡◌, ◌≢◌, None, [], ◌∷◌, �
 ghost use Rattle.lab_store_tables.specs.Columns.{format_in};
 ghost use Rattle.lab_store_tables.specs.Meaning.{version_after, chained};
 ghost use Rattle.lab_store_read_records.specs.Leaves.{leaf_of};
-ghost use Rattle.lab_store_columns.specs.Cells.{storage};
+ghost use Rattle.lab_store_read.specs.Cells.{storage};
 ghost use Rattle.lab_store_read_records.specs.Chains.{origin_after, before_next};
 ghost use Rattle.lab_store_read_records.specs.Readable.{is_placed, ArePlaced};
 
@@ -13,7 +13,7 @@ use lab_forms_texts::{LabCode, Note, Ordinal, Series};
 use lab_records_kept::{Record, Version};
 use lab_seal_hashes::Digest;
 use lab_seal_versions::{Amendment, Format, Origin};
-use lab_store_columns::{BadStore, ReadFault};
+use lab_store_read::{BadStore, ReadFault};
 use std::alloc::Global;
 
 // The format with a number, for a form that requires an approval or doesn't.

@@ -2,19 +2,19 @@
 
 ghost use Rattle.std.specs.Prelude.{◌≡◌, [], ◌∷◌, ◌++◌, map, All, IfOk, IfErr};
 ghost use Rattle.lab_store_tables.specs.Meaning.{entries_of};
-ghost use Rattle.lab_store_columns.specs.Causes.{HasItsCause};
-ghost use Rattle.lab_store_columns.specs.Cells.{storage};
-ghost use Rattle.lab_store_columns.specs.Known.{AreKnown};
-ghost use Rattle.lab_store_columns.specs.Reads.{Reads, MayRead};
+ghost use Rattle.lab_store_read.specs.Causes.{HasItsCause};
+ghost use Rattle.lab_store_read.specs.Cells.{storage};
+ghost use Rattle.lab_store_read.specs.Known.{AreKnown};
+ghost use Rattle.lab_store_read.specs.Reads.{Reads, MayRead};
 ghost use Rattle.lab_store_read_records.specs.Heads.{entry_heads_of, entry_by};
 ghost use Rattle.lab_store_read_records.specs.Readable.{HasEntry, HasOwnEntry, HasWriter};
 ghost use Rattle.lab_store_read_records.specs.Shown.{entries_shown, own_entries_shown, own_entry_read};
 
 use crate::heads::EntryHead;
 use lab_seal_versions::EntryRow;
-use lab_store_columns::asking::rows_by_one;
-use lab_store_columns::cells::{id_of, moment_of, text_if, text_of};
-use lab_store_columns::{KnownCode, ReadFault, Readable, code_once};
+use lab_store_read::asking::rows_by_one;
+use lab_store_read::cells::{id_of, moment_of, text_if, text_of};
+use lab_store_read::{KnownCode, ReadFault, Readable, code_once};
 use sqlite::Row;
 use std::alloc::Global;
 

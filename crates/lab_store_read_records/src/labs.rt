@@ -3,9 +3,9 @@
 ghost use Rattle.std.specs.Prelude.{◌≡◌, find, option_map, slice_get, IfOk, IfErr};
 ghost use Rattle.sqlite.specs.State.{HasCleanDisk, KeepsCommit};
 ghost use Rattle.lab_store_tables.specs.Meaning.{has_code};
-ghost use Rattle.lab_store_columns.specs.Causes.{HasItsCause, HasFirst};
-ghost use Rattle.lab_store_columns.specs.Cells.{storage};
-ghost use Rattle.lab_store_columns.specs.Reads.{Reads};
+ghost use Rattle.lab_store_read.specs.Causes.{HasItsCause, HasFirst};
+ghost use Rattle.lab_store_read.specs.Cells.{storage};
+ghost use Rattle.lab_store_read.specs.Reads.{Reads};
 ghost use Rattle.lab_store_read_records.specs.Heads.{lab_head};
 ghost use Rattle.lab_store_read_records.specs.Readable.{HasLab};
 ghost use Rattle.lab_store_read_records.specs.Shown.{labs_shown, lab_read};
@@ -13,9 +13,9 @@ ghost use Rattle.lab_store_read_records.specs.Shown.{labs_shown, lab_read};
 use crate::cells::count_of;
 use crate::heads::LabHead;
 use lab_forms_texts::LabCode;
-use lab_store_columns::asking::rows_by_text;
-use lab_store_columns::cells::{id_of, moment_of, text_of};
-use lab_store_columns::{ReadFault, Readable};
+use lab_store_read::asking::rows_by_text;
+use lab_store_read::cells::{id_of, moment_of, text_of};
+use lab_store_read::{ReadFault, Readable};
 use sqlite::Row;
 use std::alloc::Global;
 

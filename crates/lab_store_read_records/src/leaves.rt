@@ -3,8 +3,8 @@
 ghost use Rattle.std.specs.Prelude.{◌≡◌};
 ghost use Rattle.lab_store_read_records.specs.Leaves.{leaf_of, leaf_by};
 ghost use Rattle.lab_store_read_records.specs.Readable.{HasLeaf};
-ghost use Rattle.lab_store_columns.specs.Causes.{HasItsCause};
-ghost use Rattle.lab_store_columns.specs.Reads.{Reads};
+ghost use Rattle.lab_store_read.specs.Causes.{HasItsCause};
+ghost use Rattle.lab_store_read.specs.Reads.{Reads};
 
 use crate::entries::entries_at;
 use crate::heads::VersionHead;
@@ -12,7 +12,7 @@ use crate::signatures::signatures_at;
 use lab_forms_texts::{Moment, Note, Ordinal, PersonCode, Series};
 use lab_records_kept::Signature;
 use lab_seal_versions::EntryRows;
-use lab_store_columns::{ReadFault, Readable};
+use lab_store_read::{ReadFault, Readable};
 use std::alloc::Global;
 
 /// A version as its own rows show it. The rows don't show what the version amends.

@@ -2,15 +2,15 @@
 
 ghost use Rattle.std.specs.Prelude.{◌≡◌, [], ◌∷◌, ◌++◌, map, All};
 ghost use Rattle.lab_store_tables.specs.Meaning.{leaves_of};
-ghost use Rattle.lab_store_columns.specs.Causes.{HasItsCause};
-ghost use Rattle.lab_store_columns.specs.Reads.{Reads, MayRead};
+ghost use Rattle.lab_store_read.specs.Causes.{HasItsCause};
+ghost use Rattle.lab_store_read.specs.Reads.{Reads, MayRead};
 ghost use Rattle.lab_store_read_records.specs.Leaves.{leaf_of, leaf_by};
 ghost use Rattle.lab_store_read_records.specs.Readable.{HasLeaf, HasWholeVersion};
 ghost use Rattle.lab_store_read_records.specs.Shown.{versions_shown};
 ghost use Rattle.lab_store_read_records.specs.declared.heads.VersionHead.{VersionHead};
 
 use crate::{VersionHead, VersionLeaf, leaf_at, versions_at};
-use lab_store_columns::{ReadFault, Readable};
+use lab_store_read::{ReadFault, Readable};
 use std::alloc::Global;
 
 // Adds the version with the row after the others.

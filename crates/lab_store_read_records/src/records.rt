@@ -4,15 +4,15 @@ ghost use Rattle.std.specs.Prelude.{◌≡◌, find, option_map, slice_get, IfOk
 ghost use Rattle.lab_store_read_records.specs.Heads.{is_record, record_head};
 ghost use Rattle.lab_store_read_records.specs.Readable.{HasRecord};
 ghost use Rattle.lab_store_read_records.specs.Shown.{records_shown, record_read};
-ghost use Rattle.lab_store_columns.specs.Causes.{HasItsCause, HasFirst};
-ghost use Rattle.lab_store_columns.specs.Cells.{storage};
-ghost use Rattle.lab_store_columns.specs.Reads.{Reads};
+ghost use Rattle.lab_store_read.specs.Causes.{HasItsCause, HasFirst};
+ghost use Rattle.lab_store_read.specs.Cells.{storage};
+ghost use Rattle.lab_store_read.specs.Reads.{Reads};
 
 use crate::asking::rows_by_two;
 use crate::heads::RecordHead;
 use lab_forms_texts::Ordinal;
-use lab_store_columns::cells::{id_of, ordinal_of, small_of, text_of};
-use lab_store_columns::{ReadFault, Readable};
+use lab_store_read::cells::{id_of, ordinal_of, small_of, text_of};
+use lab_store_read::{ReadFault, Readable};
 use sqlite::Row;
 use std::alloc::Global;
 

@@ -6,16 +6,16 @@ ghost use Rattle.lab_store_read_records.specs.Shown.{record_read};
 ghost use Rattle.lab_store_read_records.specs.Sought.{is_about, heads_within};
 ghost use Rattle.lab_store_read_records.specs.Readable.{HasRecord};
 ghost use Rattle.lab_store_read_records.specs.Retrieved.{abouts_shown, within_shown};
-ghost use Rattle.lab_store_columns.specs.Causes.{HasItsCause, HasFirst};
-ghost use Rattle.lab_store_columns.specs.Cells.{storage};
-ghost use Rattle.lab_store_columns.specs.Reads.{Reads};
+ghost use Rattle.lab_store_read.specs.Causes.{HasItsCause, HasFirst};
+ghost use Rattle.lab_store_read.specs.Cells.{storage};
+ghost use Rattle.lab_store_read.specs.Reads.{Reads};
 
 use crate::RecordHead;
 use crate::asking_by_key::rows_by_key;
 use crate::records::{first_record, record_of_row};
 use lab_forms_texts::{Key, Name, Ordinal};
-use lab_store_columns::asking::rows_by_range;
-use lab_store_columns::{ReadFault, Readable};
+use lab_store_read::asking::rows_by_range;
+use lab_store_read::{ReadFault, Readable};
 use sqlite::Row;
 use std::alloc::Global;
 

@@ -6,17 +6,17 @@ ghost use Rattle.lab_store_tables.specs.Meaning.{signatures_of};
 ghost use Rattle.lab_store_read_records.specs.Shown.{signatures_shown, signature_read};
 ghost use Rattle.sqlite_value.specs.Order.{column, bytes};
 ghost use Rattle.lab_store_tables.specs.Rows.{optional_in};
-ghost use Rattle.lab_store_columns.specs.Causes.{HasItsCause};
-ghost use Rattle.lab_store_columns.specs.Cells.{storage};
-ghost use Rattle.lab_store_columns.specs.Reads.{Reads};
+ghost use Rattle.lab_store_read.specs.Causes.{HasItsCause};
+ghost use Rattle.lab_store_read.specs.Cells.{storage};
+ghost use Rattle.lab_store_read.specs.Reads.{Reads};
 ghost use Rattle.lab_store_read_records.specs.Readable.{is_meaning, HasMeaning, HasSignature};
 
 use lab_forms_texts::{Keys, Note, Text};
 use lab_records_kept::Signature;
 use lab_seal_versions::{Meaning, Seal};
-use lab_store_columns::asking::rows_by_one;
-use lab_store_columns::cells::{digest_of, moment_of, text_if, text_of};
-use lab_store_columns::{BadStore, ReadFault, Readable};
+use lab_store_read::asking::rows_by_one;
+use lab_store_read::cells::{digest_of, moment_of, text_if, text_of};
+use lab_store_read::{BadStore, ReadFault, Readable};
 use sqlite::Row;
 use std::alloc::Global;
 

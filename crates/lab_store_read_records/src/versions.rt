@@ -4,14 +4,14 @@ ghost use Rattle.std.specs.Prelude.{◌≡◌, map, All, IfOk, IfErr};
 ghost use Rattle.lab_store_read_records.specs.Heads.{versions_of};
 ghost use Rattle.lab_store_read_records.specs.Readable.{HasVersion};
 ghost use Rattle.lab_store_read_records.specs.Shown.{versions_shown, version_read};
-ghost use Rattle.lab_store_columns.specs.Causes.{HasItsCause};
-ghost use Rattle.lab_store_columns.specs.Cells.{storage};
-ghost use Rattle.lab_store_columns.specs.Reads.{Reads};
+ghost use Rattle.lab_store_read.specs.Causes.{HasItsCause};
+ghost use Rattle.lab_store_read.specs.Cells.{storage};
+ghost use Rattle.lab_store_read.specs.Reads.{Reads};
 
 use crate::heads::VersionHead;
-use lab_store_columns::asking::rows_by_one;
-use lab_store_columns::cells::{id_of, moment_of, ordinal_of, small_of, text_if, text_of};
-use lab_store_columns::{ReadFault, Readable};
+use lab_store_read::asking::rows_by_one;
+use lab_store_read::cells::{id_of, moment_of, ordinal_of, small_of, text_if, text_of};
+use lab_store_read::{ReadFault, Readable};
 use sqlite::Row;
 use std::alloc::Global;
 

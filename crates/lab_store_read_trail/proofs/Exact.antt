@@ -10,10 +10,10 @@ use Rattle.lab_store_tables.specs.Schema.{lab_schema}
 use Rattle.lab_store_tables.specs.Rows.{TrailRow, tables_in, trail_row, trail_id}
 use Rattle.lab_store_tables.specs.Ready.{IsKept}
 use Rattle.lab_store_tables.specs.Family.{Trail}
-use Rattle.lab_store_columns.proofs.Texts.{is_param, range_tests}
+use Rattle.lab_store_read.proofs.Texts.{is_param, range_tests}
 use Rattle.lab_records_kept.specs.Lookups.{is_within}
-use Rattle.lab_store_columns.proofs.Lists.{untied_also}
-use Rattle.lab_store_columns.proofs.Sorted.{equal_ints, and_true, by_one, from_number, to_number, own_rows}
+use Rattle.lab_store_read.proofs.Lists.{untied_also}
+use Rattle.lab_store_read.proofs.Sorted.{equal_ints, and_true, by_one, from_number, to_number, own_rows}
 use Rattle.lab_store_read_trail.specs.Shown.{told_shown, told_shown_within}
 use Rattle.lab_store_read_trail.specs.Trails.{is_told_within}
 use Rattle.lab_store_read_trail.proofs.Keys.{told_apart}

@@ -6,8 +6,8 @@ use Rattle.sqlite_value.specs.Order.{Row}
 use Rattle.sqlite_tied.specs.Compute.{everything}
 use Rattle.sqlite.specs.Listing.{understood}
 use Rattle.lab_store_tables.specs.Rows.{Tables}
-use Rattle.lab_store_columns.proofs.Causes.{Fits, fits_by}
-use Rattle.lab_store_columns.proofs.Texts.{is_param, own_query, range_tests}
+use Rattle.lab_store_read.proofs.Causes.{Fits, fits_by}
+use Rattle.lab_store_read.proofs.Texts.{is_param, own_query, range_tests}
 use Rattle.lab_store_read_trail.specs.Readable.{HasTold, HasDoer, HasWholeTold}
 use Rattle.lab_store_read_trail.specs.Shown.{told_shown_within, told_read}
 use Rattle.lab_store_read_trail.specs.Trails.{told_heads_within}

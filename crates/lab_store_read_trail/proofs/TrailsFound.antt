@@ -11,9 +11,9 @@ use Rattle.lab_store_tables.specs.Meaning.{told_in, trail_of, by_trail}
 use Rattle.lab_store_read_trail.specs.declared.heads.ToldHead.{ToldHead}
 use Rattle.lab_store_read_trail.specs.Trails.{told_head, told_heads_within, told_by}
 use Rattle.lab_store_read_trail.specs.Shown.{told_shown, told_shown_within, told_read}
-use Rattle.lab_store_columns.proofs.Found.{id_back}
-use Rattle.lab_store_columns.proofs.Lists.{both_filtered}
-use Rattle.lab_store_columns.proofs.Orders.{filter_sorted}
+use Rattle.lab_store_read.proofs.Found.{id_back}
+use Rattle.lab_store_read.proofs.Lists.{both_filtered}
+use Rattle.lab_store_read.proofs.Orders.{filter_sorted}
 
 told_back : (one : TrailRow) → told_read (told_shown one) ≡ told_head one
 told_back one = λ i. record (told_head one) { person = id_back one.person i }

@@ -10,8 +10,8 @@ use Rattle.lab_forms_texts.specs.Ordinals.{is_ordinal}
 use Rattle.lab_records_kept.specs.Trails.{action_word}
 use Rattle.lab_store_tables.specs.Rows.{Tables}
 use Rattle.lab_store_tables.specs.Columns.{action_in}
-use Rattle.lab_store_columns.specs.Cells.{is_id, is_number, is_text, is_optional, stands}
-use Rattle.lab_store_columns.specs.Shown.{codes_shown, shows_code}
+use Rattle.lab_store_read.specs.Cells.{is_id, is_number, is_text, is_optional, stands}
+use Rattle.lab_store_read.specs.Shown.{codes_shown, shows_code}
 use Rattle.lab_store_read_trail.specs.declared.heads.ToldHead.{ToldHead}
 use Rattle.lab_store_read_trail.specs.Shown.{told_read}
 

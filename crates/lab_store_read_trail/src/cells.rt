@@ -4,12 +4,12 @@
 ghost use Rattle.std.specs.Prelude.{◌≡◌, ◌&&◌, IfOk, IfErr};
 ghost use Rattle.std.specs.Str.{is_utf8};
 ghost use Rattle.sqlite_value.specs.Order.{column, bytes};
-ghost use Rattle.lab_store_columns.specs.Cells.{is_text, stands, IsNotMade};
+ghost use Rattle.lab_store_read.specs.Cells.{is_text, stands, IsNotMade};
 ghost use Rattle.lab_store_read_trail.specs.Readable.{is_subject};
 
 use lab_records_kept::Subject;
-use lab_store_columns::cells::cell_of;
-use lab_store_columns::{BadStore, ReadFault};
+use lab_store_read::cells::cell_of;
+use lab_store_read::{BadStore, ReadFault};
 use sqlite::Row;
 use sqlite::types::ValueRef;
 use std::alloc::Global;

@@ -3,10 +3,10 @@
 ghost use Rattle.std.specs.Prelude.{◌≡◌, [], ◌∷◌, ◌++◌, map, All, IfOk, IfErr};
 ghost use Rattle.lab_records_kept.specs.Lookups.{rows_within};
 ghost use Rattle.lab_store_tables.specs.Meaning.{trail_of};
-ghost use Rattle.lab_store_columns.specs.Causes.{HasItsCause};
-ghost use Rattle.lab_store_columns.specs.Cells.{storage};
-ghost use Rattle.lab_store_columns.specs.Reads.{Reads, MayRead};
-ghost use Rattle.lab_store_columns.specs.Known.{AreKnown};
+ghost use Rattle.lab_store_read.specs.Causes.{HasItsCause};
+ghost use Rattle.lab_store_read.specs.Cells.{storage};
+ghost use Rattle.lab_store_read.specs.Reads.{Reads, MayRead};
+ghost use Rattle.lab_store_read.specs.Known.{AreKnown};
 ghost use Rattle.lab_store_read_trail.specs.Readable.{HasTold, HasDoer, HasWholeTold};
 ghost use Rattle.lab_store_read_trail.specs.Trails.{told_heads_within, told_by};
 ghost use Rattle.lab_store_read_trail.specs.Shown.{told_shown_within, told_read};
@@ -16,9 +16,9 @@ use crate::cells::subject_of;
 use crate::heads::ToldHead;
 use lab_forms_texts::{Keys, Ordinal, Text};
 use lab_records_kept::TrailRow;
-use lab_store_columns::asking::rows_by_range;
-use lab_store_columns::cells::{id_if, moment_of, ordinal_of, text_of};
-use lab_store_columns::{BadStore, KnownCode, ReadFault, Readable, code_if_any};
+use lab_store_read::asking::rows_by_range;
+use lab_store_read::cells::{id_if, moment_of, ordinal_of, text_of};
+use lab_store_read::{BadStore, KnownCode, ReadFault, Readable, code_if_any};
 use sqlite::Row;
 use std::alloc::Global;
 

@@ -2,7 +2,7 @@
 use Rattle.std.proofs.Common.{◌≤◌, inl, inr, ℕ, arith}
 use Rattle.sqlite_trees.specs.Tree.{Trees}
 use Rattle.sqlite.specs.State.{State, HasCleanDisk, Survives}
-use Rattle.lab_records_kept.specs.Worlds.{HasFaulted}
+use Rattle.lab_records_keeper.specs.Worlds.{HasFaulted}
 use Rattle.lab_store_tables.specs.Ready.{Shuts}
 
 pub shuts_by : (old new : State) (Commits : Trees → Type 0) → Survives old new Commits → Shuts old new

@@ -11,8 +11,8 @@ use Rattle.lab_store_tables.specs.Rows.{PersonRow, tables_in, person_row, person
 use Rattle.lab_store_tables.specs.Changes.{is_person, person_named, IsNamedIfAny}
 use Rattle.lab_store_tables.specs.Held.{IsTyped}
 use Rattle.lab_store_tables.specs.Family.{Persons}
-use Rattle.lab_store_columns.proofs.Texts.{Means, is_param}
-use Rattle.lab_store_columns.proofs.Sorted.{equal_ints, equal_texts, and_true}
+use Rattle.lab_store_read.proofs.Texts.{Means, is_param}
+use Rattle.lab_store_read.proofs.Sorted.{equal_ints, equal_texts, and_true}
 use Rattle.lab_store_write.specs.Calls.{Steps, Finds}
 use Rattle.lab_store_write.specs.Ids.{id_read}
 use Rattle.lab_store_write.specs.Shown.{persons_shown}

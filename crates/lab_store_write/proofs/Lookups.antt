@@ -29,9 +29,9 @@ use Rattle.lab_store_tables.specs.Schema.{lab_schema}
 use Rattle.lab_store_tables.specs.Rows.{Tables, tables_in}
 use Rattle.lab_store_tables.specs.Held.{IsTyped}
 use Rattle.lab_store_tables.specs.Ready.{tables_of}
-use Rattle.lab_store_columns.proofs.Queries.{IsRead, same}
-use Rattle.lab_store_columns.proofs.Texts.{Means}
-use Rattle.lab_store_columns.proofs.Sorted.{sorted_answer}
+use Rattle.lab_store_read.proofs.Queries.{IsRead, same}
+use Rattle.lab_store_read.proofs.Texts.{Means}
+use Rattle.lab_store_read.proofs.Sorted.{sorted_answer}
 use Rattle.lab_store_write.specs.Calls.{Steps, Finds}
 use Rattle.lab_store_write.specs.Ids.{id_read}
 use Rattle.lab_store_write.proofs.Inside.{ended_keeps}

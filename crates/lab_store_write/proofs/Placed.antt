@@ -3,7 +3,7 @@ use Rattle.std.proofs.Common.{◌≡◌, ℕ, ℤ, List, Result, Ok, IfOk, IsTru
 use Rattle.sqlite_value.specs.Order.{Row}
 use Rattle.sqlite.specs.declared.error.Error.{Error}
 use Rattle.sqlite.specs.State.{State, HasCleanDisk, Executes, ExecutesInside}
-use Rattle.lab_store_columns.proofs.Queries.{if_then}
+use Rattle.lab_store_read.proofs.Queries.{if_then}
 use Rattle.lab_store_tables.specs.Rows.{Tables}
 use Rattle.lab_store_tables.specs.Held.{IsTyped}
 use Rattle.lab_store_tables.specs.Ready.{tables_of}

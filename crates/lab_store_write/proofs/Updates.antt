@@ -35,8 +35,8 @@ use Rattle.lab_store_tables.specs.Sheets.{names}
 use Rattle.lab_store_tables.specs.Family.{Name, RowOf, kept, table_in, tree_of, id_of, stored_row, rows, with_rows, tables_in}
 use Rattle.lab_store_tables.specs.Held.{IsTyped}
 use Rattle.lab_store_laws.proofs.Tables.{stored_with, rising_with, held_if_stored}
-use Rattle.lab_store_columns.proofs.Texts.{is_param}
-use Rattle.lab_store_columns.proofs.Sorted.{short_permutation, and_true, equal_ints}
+use Rattle.lab_store_read.proofs.Texts.{is_param}
+use Rattle.lab_store_read.proofs.Sorted.{short_permutation, and_true, equal_ints}
 use Rattle.lab_store_write.proofs.Columns.{stays}
 use Rattle.lab_store_write.proofs.Writes.{uncounted, answered, by_tests_query, update_edit}
 use Rattle.lab_store_write.proofs.Inserts.{place, there, lies}

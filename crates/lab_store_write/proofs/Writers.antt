@@ -12,7 +12,7 @@ use Rattle.lab_store_tables.specs.Rows.{Tables}
 use Rattle.lab_store_tables.specs.Changes.{InTurn}
 use Rattle.lab_store_tables.specs.Held.{IsTyped}
 use Rattle.lab_store_tables.specs.Ready.{tables_of}
-use Rattle.lab_store_columns.proofs.Queries.{IsRead, if_then}
+use Rattle.lab_store_read.proofs.Queries.{IsRead, if_then}
 use Rattle.lab_store_write.specs.Calls.{Steps, Stays, Answers, Writes, Becomes, Finds, MadeFrom, CountsBelow}
 use Rattle.lab_store_write.proofs.Inside.{Wrote, made_as, steps_weaker, found_then, known_then, keeps_then, none_then, turns_none, turns_more}
 use Rattle.lab_store_write.proofs.Lookups.{looked, looked_keeps}

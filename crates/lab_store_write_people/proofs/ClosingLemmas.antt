@@ -26,9 +26,9 @@ use Rattle.lab_store_tables.specs.Changes.{InTurn, person_named}
 use Rattle.lab_store_tables.specs.Held.{IsTyped}
 use Rattle.lab_store_tables.specs.Ready.{tables_of}
 use Rattle.lab_store_tables.specs.Family.{Sessions}
-use Rattle.lab_store_columns.proofs.Texts.{Means, is_param}
-use Rattle.lab_store_columns.proofs.Sorted.{truth_is, equal_ints, and_true}
-use Rattle.lab_store_columns.proofs.Lists.{int_alike}
+use Rattle.lab_store_read.proofs.Texts.{Means, is_param}
+use Rattle.lab_store_read.proofs.Sorted.{truth_is, equal_ints, and_true}
+use Rattle.lab_store_read.proofs.Lists.{int_alike}
 use Rattle.lab_store_write.specs.Calls.{Steps, Finds}
 use Rattle.lab_store_write.specs.Ids.{id_read}
 use Rattle.lab_store_write_people.specs.Closings.{is_meant, closed_row, ClosesRow, close_of, is_open_of, opened_shown, ClosesOf}

@@ -35,9 +35,9 @@ use Rattle.lab_store_tables.specs.Held.{IsTyped}
 use Rattle.lab_store_tables.specs.Family.{Sessions, values_of}
 use Rattle.lab_store_laws.proofs.LabLaws.{same_id}
 use Rattle.lab_store_laws.proofs.RowSet.{map_alike}
-use Rattle.lab_store_columns.proofs.Texts.{is_param}
-use Rattle.lab_store_columns.proofs.Sorted.{truth_is, equal_ints, and_true}
-use Rattle.lab_store_columns.proofs.Lists.{int_alike, text_is, text_alike}
+use Rattle.lab_store_read.proofs.Texts.{is_param}
+use Rattle.lab_store_read.proofs.Sorted.{truth_is, equal_ints, and_true}
+use Rattle.lab_store_read.proofs.Lists.{int_alike, text_is, text_alike}
 use Rattle.lab_store_write.proofs.Inserts.{adds}
 use Rattle.lab_store_write.proofs.Updates.{IsUpdate, given, sets_where}
 use Rattle.lab_store_write.proofs.Inside.{Wrote}

@@ -12,8 +12,8 @@ use Rattle.lab_store_tables.specs.Rows.{RecordRow, EntryRow, SignatureRow, Table
 use Rattle.lab_store_tables.specs.Changes.{is_record_row, record_named}
 use Rattle.lab_store_tables.specs.Held.{IsTyped}
 use Rattle.lab_store_tables.specs.Family.{Records, Entries, Signatures}
-use Rattle.lab_store_columns.proofs.Texts.{Means, is_param}
-use Rattle.lab_store_columns.proofs.Sorted.{equal_ints, equal_numbers, and_true}
+use Rattle.lab_store_read.proofs.Texts.{Means, is_param}
+use Rattle.lab_store_read.proofs.Sorted.{equal_ints, equal_numbers, and_true}
 use Rattle.lab_store_write.specs.Calls.{Steps, Finds}
 use Rattle.lab_store_write.proofs.Inside.{steps_weaker}
 use Rattle.lab_store_write.proofs.Lookups.{by_key_query, rows_by_key}

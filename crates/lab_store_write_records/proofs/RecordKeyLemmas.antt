@@ -11,8 +11,8 @@ use Rattle.lab_store_tables.specs.Rows.{FormRow, tables_in, form_row, form_id, n
 use Rattle.lab_store_tables.specs.Changes.{is_form_row, form_named}
 use Rattle.lab_store_tables.specs.Held.{IsTyped}
 use Rattle.lab_store_tables.specs.Family.{Forms}
-use Rattle.lab_store_columns.proofs.Texts.{Means, is_param}
-use Rattle.lab_store_columns.proofs.Sorted.{equal_ints, equal_texts, equal_numbers, and_true}
+use Rattle.lab_store_read.proofs.Texts.{Means, is_param}
+use Rattle.lab_store_read.proofs.Sorted.{equal_ints, equal_texts, equal_numbers, and_true}
 use Rattle.lab_store_write.specs.Calls.{Steps, Finds}
 use Rattle.lab_store_write.specs.Ids.{id_read}
 use Rattle.lab_store_write.proofs.Inside.{steps_weaker}

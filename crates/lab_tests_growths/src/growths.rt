@@ -4,10 +4,11 @@
 use crate::person_growths::print_person_growths;
 use crate::record_growths::print_record_growths;
 use crate::results::{print_made, print_word};
+use crate::sample_results::{both, made_of, text};
+use crate::samples::{colours, field, form, least, numbers};
 use anyhow::Result;
 use lab_forms::{Choices, Field, Form, Kind, Value};
 use lab_forms_texts::{Keys, LabCodes, Names, Notes, PersonCodes, Rule, Text, Units};
-use lab_tests_samples::{both, colours, field, form, least, made_of, numbers, text};
 use std::alloc::Global;
 use std::io::{self, Print};
 

@@ -6,6 +6,9 @@ mod growths;
 mod person_growths;
 mod record_growths;
 mod results;
+mod sample_results;
+mod samples;
+mod versions;
 
 use crate::growths::print_growths;
 use anyhow::{Context, Result, bail};

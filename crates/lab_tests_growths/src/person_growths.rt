@@ -2,10 +2,10 @@
 //! made for it alone, so that running out of memory stops one call and no other.
 
 use crate::results::print_made;
+use crate::sample_results::{both, made_of, text};
 use anyhow::{Context, Result};
 use lab_forms_texts::{Moment, PersonCodes, Tick};
 use lab_people::{Ask, Opened, Password, Person, Roles, Session, Verifier, enrol, open_session};
-use lab_tests_samples::{both, made_of, text};
 use std::alloc::Global;
 use std::io::{self, Print};
 

@@ -2,11 +2,12 @@
 //! memory stops one call and no other.
 
 use crate::results::{print_made, print_word};
+use crate::sample_results::{both, made_of, text};
+use crate::versions::{text_of, version, version_text};
 use anyhow::{Context, Result};
 use lab_forms_texts::{Moment, Ordinal};
 use lab_seal::read_version;
 use lab_seal_versions::{Amendment, Meaning, Origin, SealParts, VersionParts, digest};
-use lab_tests_samples::{both, made_of, text, text_of, version, version_text};
 use std::alloc::Global;
 use std::io::{self, Print};
 

@@ -1,8 +1,9 @@
 //! Calls without clauses, so that the proof of a test doesn't carry what a connection holds after each.
 use lab_move::{MoveFault, OldFile, Unwatched, migrate};
 use lab_move_files::{finish, make_tables};
-use lab_move_writing::place_lab;
-use lab_records_kept::{BadStore, KeeperFault, Lab};
+use lab_move_write::place_lab;
+use lab_records_keeper::{BadStore, KeeperFault};
+use lab_records_kept::Lab;
 use lab_store_files::{FileFault, open};
 use sqlite::{Connection, MemStore};
 use std::process::Abort;

@@ -4,7 +4,8 @@
 use crate::exchanges::{Exchange, tick};
 use lab_desk::{Desk, Twins, twin};
 use lab_forms_texts::{LabCode, MomentFault};
-use lab_records_kept::{Keeper, Need, Slice};
+use lab_records_keeper::Keeper;
+use lab_records_kept::{Need, Slice};
 use lab_store::Store;
 use sqlite::{Alter, Connection};
 use std::alloc::Global;

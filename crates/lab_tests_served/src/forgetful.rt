@@ -1,5 +1,5 @@
 //! A file that is written in place anew, over a disk in memory which forgets what a sync that failed had, as Linux does (fsync(2)).
-use lab_program_outside::{Renewable, renew};
+use lab_program_host::{Renewable, renew};
 use std::alloc::{AllocError, Global};
 use std::io::{self, ErrorKind};
 use std::process::Abort;

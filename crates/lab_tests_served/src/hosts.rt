@@ -1,10 +1,10 @@
 //! What a server is given in memory: a clock that stands, words that are known, and who opens no
 //! keeper anew.
 use lab_forms_texts::Moment;
-use lab_program_outside::{Chance, Clock, DrawFault};
+use lab_program_host::{Chance, Clock, DrawFault};
 use lab_program_serve::Opener;
-use lab_records_kept::KeeperFault;
-use lab_records_lists::Lists;
+use lab_records_keeper::KeeperFault;
+use lab_records_memory::Lists;
 use lab_tests_rows::words;
 use std::alloc::Global;
 

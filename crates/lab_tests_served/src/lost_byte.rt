@@ -2,7 +2,7 @@
 
 ghost use Rattle.std.specs.Prelude.{◌≡◌, ◌∷◌, [], IsTrue, OnOk};
 
-use lab_program_outside::{Renewable, renew};
+use lab_program_host::{Renewable, renew};
 use std::io::{self, ErrorKind};
 
 /// The byte that is read, the one that the disk has, and whether it was written since the opening.

@@ -5,9 +5,9 @@ use crate::hosts::{Counting, Never, Standing};
 use crate::streets::{Client, Ground, Street};
 use lab_desk::{Desk, Keeper, LabCode, Tick};
 use lab_forms_texts::Moment;
-use lab_program_outside::{Chance, Clock, Host, WriteFault};
-use lab_program_serve::{Office, Opener, listen, serve};
-use lab_records_lists::Lists;
+use lab_program_host::{Chance, Clock, Host, WriteFault};
+use lab_program_serve::{LiveDesk, Opener, listen, serve};
+use lab_records_memory::Lists;
 use lab_tests_rows::{Exchange, moment, words};
 use std::cell::{Cell, RefCell};
 use std::io::{Read, Write};
@@ -44,7 +44,7 @@ fn assert_got(rt: &impl Abort, client: &Client, reply: &[u8]) {
 // promises.
 fn serve_two<N: Net, C: Clock, X: Chance, S: Keeper + Drop, O, L>(
     host: &mut Host<'_, N, (), C, X, ()>,
-    office: &mut Office<S, O>,
+    office: &mut LiveDesk<S, O>,
     listener: L,
     output: &mut Vec<u8>,
     errors: &mut Vec<u8>,
@@ -66,7 +66,7 @@ fn served<R: Abort + AllocGlobal>(
     let mut host = Host {
         alloc: rt.alloc(),
         net: &ground,
-        shelf: (),
+        volume: (),
         clock: Standing {
             moment: moment().expect(rt, "a moment"),
         },
@@ -76,7 +76,7 @@ fn served<R: Abort + AllocGlobal>(
         progress: (),
     };
     let listener = listen(&ground, 7000).ok().expect(rt, "a listener");
-    let mut office = Office::new(rt.alloc(), Never, desk_with_aqua(rt)).expect(rt, "an office");
+    let mut office = LiveDesk::new(rt.alloc(), Never, desk_with_aqua(rt)).expect(rt, "an office");
     let mut output = Vec::new(rt.alloc());
     let mut errors = Vec::new(rt.alloc());
     let status = serve_two(&mut host, &mut office, listener, &mut output, &mut errors);

@@ -2,7 +2,7 @@
 use crate::texts::{BODY, NO_SUCH_LAB_REPLY, OPEN, OPEN_REPLY, ZINC_CARD, ZINC_CARD_REPLY};
 use lab_desk::{Desk, Twins, twin};
 use lab_forms_texts::{LabCode, Moment, Tick};
-use lab_records_lists::Lists;
+use lab_records_memory::Lists;
 use std::process::Abort;
 
 fn tick(rt: &impl Abort, seconds: i64) -> Tick {

@@ -4,7 +4,7 @@ use Rattle.std.specs.Prelude.{ℕ, List, [], ◌++◌, ◌==◌, codes, if◌the
 use Rattle.serde_json.specs.Written.{compact_text}
 use Rattle.lab_forms_texts.specs.declared.tick.Tick.{Tick}
 use Rattle.lab_forms_texts.specs.Faults.{Entry, memory_entry}
-use Rattle.lab_records_kept.specs.Faults.{storage_entry}
+use Rattle.lab_records_keeper.specs.Faults.{storage_entry}
 use Rattle.lab_wire_replies.specs.Refusals.{refused_data}
 use Rattle.lab_wire_replies.specs.Replies.{Body as ReplyBody, Json, Csv, body_of, reply_text as body_text}
 use Rattle.lab_wire_heads.specs.Messages.{line, message_text}

@@ -16,13 +16,12 @@ mod statuses;
 
 pub use asked::{ask, ask_received};
 pub use commands::{Asked, command_of};
+pub use lab_forms_streams::{WriteFault, write_whole};
 pub use lab_forms_texts::{Fault, LabCode, Moment, Name, OutOfMemory, RefusalKind, Tick};
 pub use lab_records_machine::{Command, Founder, Founding, Instruction, Reply};
 pub use lab_records_rules::Refusal;
 pub use lab_seal_hashes::Token;
-pub use lab_wire_heads::{
-    HeadFault, HeadRefusal, RequestParts, WriteFault, grammar_of_heads, request_parts, write_reply,
-};
+pub use lab_wire_heads::{HeadFault, HeadRefusal, RequestParts, grammar_of_heads, request_parts};
 pub use lab_wire_members::{BodyFault, BodyRefusal};
 pub use lab_wire_received::{Received, read_request};
 pub use refusals::{RequestFault, RequestRefusal};

@@ -9,7 +9,7 @@ use crate::refusals::RequestRefusal;
 use crate::statuses::answer_status;
 use http::StatusCode;
 use lab_forms_texts::{OutOfMemory, RefusalKind, Tick};
-use lab_records_kept::{BadStore, KeeperFault};
+use lab_records_keeper::{BadStore, KeeperFault};
 use lab_records_machine::Reply;
 use lab_wire_heads::message;
 use lab_wire_replies::{entry_value, reply_body};
@@ -27,7 +27,7 @@ pub enum Answer {
     Replied(Reply),
     /// The bytes ask nothing.
     Refused(RequestRefusal),
-    /// The store failed; nothing was changed.
+    /// The store failed; nothing was changed, unless the fault has shut the keeper.
     Storage,
 }
 

@@ -9,5 +9,4 @@ pub mod Messages
 pub mod Receptions
 pub mod Refusals
 pub mod Requests
-pub mod Sending
 pub mod Tokens

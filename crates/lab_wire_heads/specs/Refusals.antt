@@ -2,7 +2,7 @@
 -- of a reader's and of a writer's fault have no number: no reply can tell of them.
 use Rattle.std.specs.Prelude.{ℕ, List, codes, Option, Some, None}
 use Rattle.lab_forms_texts.specs.Faults.{Entry, memory_entry}
-use Rattle.lab_wire_heads.specs.Sending.{read_fault_word, write_fault_word}
+use Rattle.lab_forms_streams.specs.Sending.{read_fault_word, write_fault_word}
 use Rattle.lab_wire_heads.specs.declared.refusals.HeadRefusal.{HeadRefusal}
 use Rattle.lab_wire_heads.specs.declared.refusals.HeadRefusal.TheVariants.{BadHead, HeadTooLong, TransferCoding, LengthWanted, BodyTooLong, ShortBody}
 use Rattle.lab_wire_heads.specs.declared.refusals.HeadFault.{HeadFault}

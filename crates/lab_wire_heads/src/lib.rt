@@ -15,7 +15,6 @@ mod messages;
 mod receptions;
 mod refusals;
 mod requests;
-mod sending;
 mod tokens;
 
 pub use accepted::{AcceptedHead, kept_head};
@@ -27,4 +26,3 @@ pub use messages::message;
 pub use receptions::{head_is_by_front, request_is_by_front, request_is_its_bytes};
 pub use refusals::{HeadFault, HeadRefusal};
 pub use requests::{RequestParts, request_parts};
-pub use sending::{WriteFault, write_reply};

@@ -3,7 +3,7 @@
 ghost use Rattle.std.specs.Prelude.{◌≡◌, Some};
 ghost use Rattle.lab_wire_heads.specs.Refusals.{head_entry, head_fault_number, head_fault_word};
 
-use crate::WriteFault;
+use lab_forms_streams::WriteFault;
 use lab_forms_texts::{OutOfMemory, RefusalKind};
 use std::alloc::AllocError;
 use std::fmt;

@@ -126,7 +126,7 @@ fn inspector_of(word: &str) -> Option<Role>
     }
 }
 
-fn office_of(word: &str) -> Option<Role>
+fn live_desk_of(word: &str) -> Option<Role>
     ensures { result ≡ find (names_role word.now) (Manager ∷ Administrator ∷ Inspector ∷ []) }
 {
     if word == Role::Manager.word() {
@@ -146,7 +146,7 @@ fn role_of(word: &str) -> Option<Role>
     } else if word == Role::Reviewer.word() {
         Some(Role::Reviewer)
     } else {
-        office_of(word)
+        live_desk_of(word)
     }
 }
 

@@ -5,7 +5,7 @@ ghost use Rattle.std.specs.Io.{ReadsAtMost};
 ghost use Rattle.std.specs.Io.KnownBytes.{ReadConsumes};
 ghost use Rattle.lab_wire_received.specs.Reading.{TakesByte};
 
-use lab_forms_asks::ByteSource;
+use lab_forms_streams::ByteSource;
 use lab_wire_heads::HeadFault;
 use std::io::ErrorKind;
 

@@ -10,7 +10,7 @@ ghost use Rattle.lab_wire_received.specs.Reading.{CameBehind, HasBody, IsBodyFau
 
 use crate::Received;
 use crate::asks::{ReadFault, read_some};
-use lab_forms_asks::ByteSource;
+use lab_forms_streams::ByteSource;
 use lab_forms_texts::Series;
 use lab_wire_heads::{AcceptedHead, HeadFault, HeadRefusal};
 use std::alloc::Global;

@@ -7,7 +7,7 @@ ghost use Rattle.lab_wire_heads.specs.Receptions.{head_stop};
 
 use crate::asks::{ReadFault, next_byte};
 use crate::stages::HeadStage;
-use lab_forms_asks::ByteSource;
+use lab_forms_streams::ByteSource;
 
 /// Reads the bytes of a head into the room, one at a time, so that the bytes after the head stay in
 /// the reader. Stops at the end of the head, or at the limit, or at the last byte. Returns how many

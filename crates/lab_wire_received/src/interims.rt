@@ -4,7 +4,7 @@ ghost use Rattle.std.specs.Prelude.{◌<◌, length, take, OnOk, IfErr};
 ghost use Rattle.std.specs.Io.KnownBytes.{Appends};
 ghost use Rattle.lab_wire_received.specs.Receptions.{lines_if};
 
-use lab_wire_heads::{WriteFault, write_reply};
+use lab_forms_streams::{WriteFault, write_whole};
 use std::io::Write;
 
 /// The interim answer (RFC 9110, section 15.2.1).
@@ -23,5 +23,5 @@ pub(crate) fn send_interim<W: Write>(writer: &mut W, is_due: bool) -> Result<(),
     ensures short { IfErr result (λ fault. fault.sent < length (lines_if is_due)) }
 {
     let lines = if is_due { INTERIM_LINES } else { b"" };
-    write_reply(writer, lines)
+    write_whole(writer, lines)
 }

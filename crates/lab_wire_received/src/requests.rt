@@ -12,7 +12,7 @@ use crate::asks::MOST_ASKS;
 use crate::bodies::read_body;
 use crate::heads::read_head;
 use crate::interims::send_interim;
-use lab_forms_asks::ByteSource;
+use lab_forms_streams::ByteSource;
 use lab_wire_heads::{HEAD_LIMIT, HeadFault, kept_head};
 use std::alloc::Global;
 use std::io::Write;

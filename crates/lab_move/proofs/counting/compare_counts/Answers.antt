@@ -1,5 +1,5 @@
 use Rattle.std.proofs.Common.{Err}
-use Rattle.lab_move_rows.proofs.OldReaders.{may_and, may_end}
+use Rattle.lab_move_tables.proofs.OldReaders.{may_and, may_end}
 use Rattle.lab_move.proofs.OldVerdicts.{any_ok, of_store_by}
 use Rattle.lab_move.proofs.counting.compare_counts.Goals as goal
 

@@ -2,10 +2,10 @@ use Rattle.std.proofs.Common.{Err, List, [], subst}
 use Rattle.sqlite.specs.Held.{state}
 use Rattle.sqlite_value.specs.Order.{Row}
 use Rattle.lab_store_tables.specs.Ready.{tables_of}
-use Rattle.lab_store_columns.proofs.Queries.{if_then}
-use Rattle.lab_move_rows.proofs.OldReaders.{rows_read, may_and, may_end}
+use Rattle.lab_store_read.proofs.Queries.{if_then}
+use Rattle.lab_move_tables.proofs.OldReaders.{rows_read, may_and, may_end}
 use Rattle.lab_move.specs.Counting.{AreCounts, counts_text}
-use Rattle.lab_move_rows.proofs.Bare.{shows_of}
+use Rattle.lab_move_tables.proofs.Bare.{shows_of}
 use Rattle.lab_move.proofs.Counts.{counts_read}
 use Rattle.lab_move.proofs.OldVerdicts.{any_ok, none_asked}
 use Rattle.lab_move.proofs.counting.has_as_many.Goals as goal

@@ -1,8 +1,8 @@
 use Rattle.std.proofs.Common.{Err, subst}
 use Rattle.sqlite.specs.Held.{state}
 use Rattle.lab_store_tables.specs.Ready.{tables_of}
-use Rattle.lab_store_columns.proofs.Queries.{if_then}
-use Rattle.lab_move_rows.proofs.OldReaders.{rows_read, may_and, may_end}
+use Rattle.lab_store_read.proofs.Queries.{if_then}
+use Rattle.lab_move_tables.proofs.OldReaders.{rows_read, may_and, may_end}
 use Rattle.lab_move.specs.Counting.{AreAlike}
 use Rattle.lab_move.proofs.Counts.{counts_read, counts_known, counts_by}
 use Rattle.lab_move.proofs.OldVerdicts.{any_ok}

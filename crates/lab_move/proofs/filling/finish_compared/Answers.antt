@@ -3,7 +3,7 @@ use Rattle.sqlite.specs.Effect.{Database}
 use Rattle.sqlite.specs.Held.{state}
 use Rattle.lab_store_tables.specs.Held.{IsTyped}
 use Rattle.lab_store_tables.specs.Rows.{tables_in}
-use Rattle.lab_move_rows.proofs.OldReaders.{may_and, may_end}
+use Rattle.lab_move_tables.proofs.OldReaders.{may_and, may_end}
 use Rattle.lab_move.specs.Counting.{HasAsMany}
 use Rattle.lab_move.proofs.CountedFiles.{finishes_then, fails_then, named_counted}
 use Rattle.lab_move.proofs.filling.finish_compared.Goals as goal

@@ -1,7 +1,7 @@
 use Rattle.std.proofs.Common.{Err}
 use Rattle.sqlite.specs.Held.{state}
 use Rattle.lab_store_tables.specs.Ready.{tables_of}
-use Rattle.lab_move_rows.proofs.OldReaders.{may_end}
+use Rattle.lab_move_tables.proofs.OldReaders.{may_end}
 use Rattle.lab_move.proofs.OneLab.{errs_as}
 use Rattle.lab_move.proofs.AllLabs.{counted, finishes_all, all_later, fails_all}
 use Rattle.lab_move.proofs.CountedFiles.{counted_since, filling_of}

@@ -1,7 +1,7 @@
 use Rattle.std.proofs.Common.{drop, length, ◌+◌, ◌<◌, subst, arith}
 use Rattle.std.proofs.lemmas.List.{take_all}
 use Rattle.sqlite.specs.Held.{state}
-use Rattle.lab_move_people.proofs.KeptLoops.{then_fails}
+use Rattle.lab_move_read_people.proofs.KeptLoops.{then_fails}
 use Rattle.lab_move.proofs.EachLab.{HasMoved, none_moved, one_moved, next_fills, blamed_first, fills_fail, blames_on, split_at, grown, all_read, all_filled}
 use Rattle.lab_move.proofs.filling.move_each.Goals as goal
 

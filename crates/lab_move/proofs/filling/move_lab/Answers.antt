@@ -1,6 +1,6 @@
 use Rattle.std.proofs.Common.{Err}
 use Rattle.sqlite.specs.Held.{state}
-use Rattle.lab_move_rows.proofs.OldReaders.{may_end}
+use Rattle.lab_move_tables.proofs.OldReaders.{may_end}
 use Rattle.lab_move_files.proofs.Commits.{nothing_made}
 use Rattle.lab_move.proofs.OneLab.{blames_as, errs_as, lab_reads, lab_carries, lab_blamed, unread_blamed}
 use Rattle.lab_move.proofs.filling.move_lab.Goals as goal

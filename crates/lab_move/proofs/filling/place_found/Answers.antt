@@ -1,6 +1,6 @@
 use Rattle.sqlite.specs.Held.{state}
 use Rattle.lab_move_files.proofs.Commits.{makes_weaker, nothing_made}
-use Rattle.lab_move_writing.specs.Carrying.{Carries}
+use Rattle.lab_move_write.specs.Carrying.{Carries}
 use Rattle.lab_move.specs.Moving.{IsSoundLab}
 use Rattle.lab_move.proofs.OneLab.{PlacesFound, errs_as, on_ok_as}
 use Rattle.lab_move.proofs.filling.place_found.Goals as goal

@@ -1,6 +1,6 @@
 use Rattle.std.proofs.Common.{Err}
 use Rattle.sqlite.specs.Held.{state}
-use Rattle.lab_move_rows.proofs.OldReaders.{may_and, may_end}
+use Rattle.lab_move_tables.proofs.OldReaders.{may_and, may_end}
 use Rattle.lab_move_files.proofs.Commits.{nothing_made}
 use Rattle.lab_move.proofs.OldVerdicts.{any_ok}
 use Rattle.lab_move.proofs.Causes.{old_cause, made_cause, made_untouched, made_taken}

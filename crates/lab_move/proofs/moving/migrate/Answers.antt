@@ -1,7 +1,7 @@
 use Rattle.std.proofs.Common.{Err}
 use Rattle.sqlite.specs.Held.{state}
 use Rattle.lab_store_tables.specs.Ready.{tables_of}
-use Rattle.lab_move_rows.proofs.OldReaders.{may_then, may_end}
+use Rattle.lab_move_tables.proofs.OldReaders.{may_then, may_end}
 use Rattle.lab_move.proofs.AllLabs.{read_on}
 use Rattle.lab_move.proofs.Ends.{unbegun, left_unfinished, started, whole_now}
 use Rattle.lab_move.proofs.CountedFiles.{begun_open, counted_since}

@@ -1,5 +1,5 @@
 use Rattle.std.proofs.Common.{Err}
-use Rattle.lab_move_rows.proofs.OldReaders.{rows_read, may_and, may_end}
+use Rattle.lab_move_tables.proofs.OldReaders.{rows_read, may_and, may_end}
 use Rattle.lab_move.proofs.OldVerdicts.{desk_read, of_store_by}
 use Rattle.lab_move.proofs.opening.number_rows.Goals as goal
 

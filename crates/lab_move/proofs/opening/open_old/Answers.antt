@@ -2,7 +2,7 @@ use Rattle.std.proofs.Common.{◌≡◌, inl, inr, Err, ap, sym, ◌∙◌, rule
 use Rattle.sqlite_schema.specs.declared.schema.Schema.{Schema}
 use Rattle.sqlite.specs.Held.{state}
 use Rattle.lab_store_files.specs.Schemas.{has_number}
-use Rattle.lab_move_rows.proofs.OldReaders.{may_and, may_end}
+use Rattle.lab_move_tables.proofs.OldReaders.{may_and, may_end}
 use Rattle.lab_move.specs.OldFiles.{old_verdict}
 use Rattle.lab_move.proofs.OldVerdicts.{ours_named, ours_taken, not_taken, verdict_at, failed_in, not_empty_in, any_ok, none_asked}
 use Rattle.lab_move.proofs.opening.open_old.Goals as goal

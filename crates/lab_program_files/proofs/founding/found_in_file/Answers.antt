@@ -1,8 +1,8 @@
 -- Where there is no desk nothing is asked of a keeper; then a founding over it tells.
-use Rattle.lab_program_outside.specs.declared.faults.ServerFault.TheVariants.{Memory}
+use Rattle.lab_program_host.specs.declared.faults.ServerFault.TheVariants.{Memory}
 use Rattle.lab_program_files.specs.FileWorlds.{file_keeper}
-use Rattle.lab_program_shelves.specs.Files.{IsOpened}
-use Rattle.lab_program_shelves.proofs.FileLemmas.{kept_so}
+use Rattle.lab_program_opening.specs.Files.{IsOpened}
+use Rattle.lab_program_opening.proofs.FileLemmas.{kept_so}
 use Rattle.lab_program_files.proofs.FoundingLemmas.{ends_idle, undrawn}
 use Rattle.lab_program_files.proofs.founding.found_in_file.Goals as goal
 
@@ -18,7 +18,7 @@ returns-in_default-clause-ends g c = (
 
 pub returns-clause-ends : goal.returns-clause-ends
 returns-clause-ends g c =
-    let opened = kept_so (IsOpened g.H.Disk.Store (g.H.Shelf.holds c.args.host.now.shelf c.args.path.now)) c.in_ok-conn.conn c.new.result
+    let opened = kept_so (IsOpened g.H.Disk.Store (g.H.Volume.holds c.args.host.now.volume c.args.path.now)) c.in_ok-conn.conn c.new.result
     c.in-Ok.desk.keeper c.in-Ok.ensures.keeper c.new.ensures c.in_ok-conn.ensures.opened in (
       c.in-Ok.desk.keeper,
       c.found_over-done.new.desk.keeper,

@@ -7,7 +7,7 @@ use Rattle.sqlite.specs.Held.{state}
 use Rattle.sqlite.proofs.Theorems.{next_run}
 use Rattle.lab_store_tables.specs.Meaning.{meaning}
 use Rattle.lab_store_tables.specs.Rows.{tables_in}
-use Rattle.lab_program_shelves.specs.Files.{AreHeldIn}
+use Rattle.lab_program_opening.specs.Files.{AreHeldIn}
 use Rattle.lab_program_files.proofs.StartLemmas.{leaves_found, one_start_more}
 use Rattle.lab_program_files.proofs.starts.a_start_finds_what_was_left.Goals as goal
 

@@ -1,5 +1,5 @@
 -- What `migrate` says of both connections is what is said.
-use Rattle.lab_program_shelves.proofs.FileLemmas.{leaves_shown}
+use Rattle.lab_program_opening.proofs.FileLemmas.{leaves_shown}
 use Rattle.lab_program_moves.proofs.MoveLemmas.{shown_where}
 use Rattle.lab_program_moves.proofs.moving.count_moved.Goals as goal
 

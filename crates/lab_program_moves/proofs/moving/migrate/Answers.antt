@@ -24,7 +24,7 @@ returns-in-Ok-count_moved g c = record {
     c.in-Ok.file.conn,
     c.in-Ok-open_new.conn,
     c.in-Ok.ensures,
-    (c.old_file.new.shelf, c.in-Ok-open_new.ensures.blank),
+    (c.old_file.new.volume, c.in-Ok-open_new.ensures.blank),
     c.in-Ok-count_moved.ensures,
   );
   told = c.print.ensures;
@@ -37,7 +37,7 @@ returns-in-Err-count_moved g c = record {
     c.in-Ok.file.conn,
     c.in-Ok-open_new.conn,
     c.in-Ok.ensures,
-    (c.old_file.new.shelf, c.in-Ok-open_new.ensures.blank),
+    (c.old_file.new.volume, c.in-Ok-open_new.ensures.blank),
     c.in-Err-count_moved.ensures,
   );
   told = (Keeps-refl _, c.decline_move.ensures);

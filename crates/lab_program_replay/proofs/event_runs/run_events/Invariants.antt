@@ -1,5 +1,5 @@
-use Rattle.lab_records_kept.specs.Worlds.{Passes}
-use Rattle.lab_desk_runs.specs.Keeping.{AreWithin, GivenWithin}
+use Rattle.lab_records_keeper.specs.Worlds.{Passes}
+use Rattle.lab_desk_events.specs.Keeping.{AreWithin, GivenWithin}
 use Rattle.lab_program_replay.proofs.EventRunLemmas.{SoFar}
 use Rattle.lab_program_replay.proofs.event_runs.run_events.Given as goal
 

@@ -7,6 +7,6 @@ use Rattle.lab_program_serve.proofs.loopback.serve_listener.Goals as goal
 pub returns-in_err-listening-clause-served : goal.returns-in_err-listening-clause-served
 returns-in_err-listening-clause-served g c =
     let fault = err_from_is_err_and c.from_residual.result c.from_residual.ensures.1 in
-    rw fault.1 (serves_cut g.S.Keeper g.O.Opener.opened fault.0 c.args.office.now
-    c.args.office.now 0 c.args.count _ _ _ _ _ _ _ _ _ (omega arith)
-    (counts_first g.S.Keeper g.O.Opener.opened c.args.office.now _ _ _))
+    rw fault.1 (serves_cut g.S.Keeper g.O.Opener.opened fault.0 c.args.live_desk.now
+    c.args.live_desk.now 0 c.args.count _ _ _ _ _ _ _ _ _ (omega arith)
+    (counts_first g.S.Keeper g.O.Opener.opened c.args.live_desk.now _ _ _))

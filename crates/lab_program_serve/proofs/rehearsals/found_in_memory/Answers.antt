@@ -1,7 +1,7 @@
 -- The laboratory that the body bears is the only one; a refusal is the body's or the birth's.
 use Rattle.std.proofs.lemmas.Result.{err_from_is_err_and}
 use Rattle.lab_program_serve.specs.Rehearsals.{IsFounded, IsUnfounded}
-use Rattle.lab_program_outside.proofs.ReadLemmas.{for_known, known_as}
+use Rattle.lab_program_host.proofs.ReadLemmas.{for_known, known_as}
 use Rattle.lab_program_serve.proofs.RehearsalLemmas.{founded_alone, unfounded_server, unfounded_so}
 use Rattle.lab_program_serve.proofs.rehearsals.found_in_memory.Goals as goal
 

@@ -25,22 +25,22 @@ returns-in_err-request-clause-served g c = λ within honest reached.
     let fault = err_from_is_err_and c.from_residual.result c.from_residual.ensures.1 in
     ([], refl, rw fault.1 (inl refl))
 
-pub returns-in_err-write_reply-clause-asked : goal.returns-in_err-write_reply-clause-asked
-returns-in_err-write_reply-clause-asked g c =
-    let fault = err_from_is_err_and c.from_residual-in_err-write_reply.result
-    c.from_residual-in_err-write_reply.ensures.1 in
-    rw fault.1 (_, rw (c.as_slice.ensures.value ∙ c.in_ok-request.ensures) at c.in_err-write_reply.ensures.cut)
+pub returns-in_err-write_whole-clause-asked : goal.returns-in_err-write_whole-clause-asked
+returns-in_err-write_whole-clause-asked g c =
+    let fault = err_from_is_err_and c.from_residual-in_err-write_whole.result
+    c.from_residual-in_err-write_whole.ensures.1 in
+    rw fault.1 (_, rw (c.as_slice.ensures.value ∙ c.in_ok-request.ensures) at c.in_err-write_whole.ensures.cut)
 
-pub returns-in_err-write_reply-clause-printed : goal.returns-in_err-write_reply-clause-printed
-returns-in_err-write_reply-clause-printed g c =
-    let fault = err_from_is_err_and c.from_residual-in_err-write_reply.result
-    c.from_residual-in_err-write_reply.ensures.1 in
+pub returns-in_err-write_whole-clause-printed : goal.returns-in_err-write_whole-clause-printed
+returns-in_err-write_whole-clause-printed g c =
+    let fault = err_from_is_err_and c.from_residual-in_err-write_whole.result
+    c.from_residual-in_err-write_whole.ensures.1 in
     rw fault.1 (forwards_none (g.A.Read.remaining c.args.client.now.reader) fault.0 _)
 
-pub returns-in_err-write_reply-clause-served : goal.returns-in_err-write_reply-clause-served
-returns-in_err-write_reply-clause-served g c = λ within honest reached.
-    let fault = err_from_is_err_and c.from_residual-in_err-write_reply.result
-    c.from_residual-in_err-write_reply.ensures.1 in
+pub returns-in_err-write_whole-clause-served : goal.returns-in_err-write_whole-clause-served
+returns-in_err-write_whole-clause-served g c = λ within honest reached.
+    let fault = err_from_is_err_and c.from_residual-in_err-write_whole.result
+    c.from_residual-in_err-write_whole.ensures.1 in
     ([], refl, rw fault.1 (inl refl))
 
 pub returns-in_err-connection-clause-asked : goal.returns-in_err-connection-clause-asked
@@ -48,7 +48,7 @@ returns-in_err-connection-clause-asked g c =
     let fault = err_from_is_err_and c.from_residual-in_err-connection.result
     c.from_residual-in_err-connection.ensures.1 in
     rw fault.1 (printed_all (card_request c.args.lab.now) _ _
-    (rw (c.as_slice.ensures.value ∙ c.in_ok-request.ensures) at c.in_ok-write_reply.ensures.whole))
+    (rw (c.as_slice.ensures.value ∙ c.in_ok-request.ensures) at c.in_ok-write_whole.ensures.whole))
 
 pub returns-in_err-connection-clause-printed : goal.returns-in_err-connection-clause-printed
 returns-in_err-connection-clause-printed g c =
@@ -67,7 +67,7 @@ returns-in_err-serve_connection-clause-asked g c =
     let fault = err_from_is_err_and c.from_residual-in_err-serve_connection.result
     c.from_residual-in_err-serve_connection.ensures.1 in
     rw fault.1 (printed_all (card_request c.args.lab.now) _ _
-    (rw (c.as_slice.ensures.value ∙ c.in_ok-request.ensures) at c.in_ok-write_reply.ensures.whole))
+    (rw (c.as_slice.ensures.value ∙ c.in_ok-request.ensures) at c.in_ok-write_whole.ensures.whole))
 
 pub returns-in_err-serve_connection-clause-printed :
     goal.returns-in_err-serve_connection-clause-printed
@@ -114,7 +114,7 @@ returns-in_err-serve_connection-clause-served g c = λ within honest reached.
 pub returns-clause-asked : goal.returns-clause-asked
 returns-clause-asked g c =
     printed_any (card_request c.args.lab.now) c.forward.result _ _
-    (rw (c.as_slice.ensures.value ∙ c.in_ok-request.ensures) at c.in_ok-write_reply.ensures.whole)
+    (rw (c.as_slice.ensures.value ∙ c.in_ok-request.ensures) at c.in_ok-write_whole.ensures.whole)
 
 pub returns-clause-served : goal.returns-clause-served
 returns-clause-served g c = λ within honest reached.

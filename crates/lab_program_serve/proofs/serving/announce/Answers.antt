@@ -11,20 +11,20 @@ returns-in_err-line g c =
     let fault = err_from_is_err_and c.from_residual.result c.from_residual.ensures.1 in
     rw fault.1 (0, Appends-nil _)
 
-pub returns-in_err-write_reply : goal.returns-in_err-write_reply
-returns-in_err-write_reply g c =
-    let fault = err_from_is_err_and c.from_residual-in_err-write_reply.result
-    c.from_residual-in_err-write_reply.ensures.1 in
+pub returns-in_err-write_whole : goal.returns-in_err-write_whole
+returns-in_err-write_whole g c =
+    let fault = err_from_is_err_and c.from_residual-in_err-write_whole.result
+    c.from_residual-in_err-write_whole.ensures.1 in
     let line = c.as_bytes.ensures.value ∙ c.in_ok-line.ensures.ok in
-    rw fault.1 (_, rw line at c.in_err-write_reply.ensures.cut)
+    rw fault.1 (_, rw line at c.in_err-write_whole.ensures.cut)
 
 pub returns-in-Ok : goal.returns-in-Ok
 returns-in-Ok g c =
     let line = c.as_bytes.ensures.value ∙ c.in_ok-line.ensures.ok in
-    Appends-kept _ _ _ _ (rw line at c.in_ok-write_reply.ensures.whole) c.flush.ensures.bytes
+    Appends-kept _ _ _ _ (rw line at c.in_ok-write_whole.ensures.whole) c.flush.ensures.bytes
 
 pub returns : goal.returns
 returns g c =
     let line = c.as_bytes.ensures.value ∙ c.in_ok-line.ensures.ok in
     printed_all (listening_line c.args.port) _ _
-    (Appends-kept _ _ _ _ (rw line at c.in_ok-write_reply.ensures.whole) c.flush.ensures.bytes)
+    (Appends-kept _ _ _ _ (rw line at c.in_ok-write_whole.ensures.whole) c.flush.ensures.bytes)

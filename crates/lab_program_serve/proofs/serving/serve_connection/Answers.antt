@@ -1,4 +1,4 @@
-use Rattle.lab_desk_runs.proofs.Lasting.{still_stays}
+use Rattle.lab_desk_events.proofs.Lasting.{still_stays}
 use Rattle.lab_program_serve.proofs.serving.serve_connection.Goals as goal
 
 pub returns-in_default-clause-stays : goal.returns-in_default-clause-stays

@@ -3,7 +3,7 @@ use Rattle.std.proofs.lemmas.Int.{to_z-of_z}
 use Rattle.sqlite.specs.Held.{state}
 use Rattle.sqlite.specs.State.{HasCleanDisk}
 use Rattle.lab_forms_texts.specs.declared.refusals.Fault.{Fault}
-use Rattle.lab_records_kept.specs.declared.faults.BadStore.{BadStore}
+use Rattle.lab_records_keeper.specs.declared.faults.BadStore.{BadStore}
 use Rattle.lab_store.proofs.After.{ends_ok, ends_err, found_row, counted_now}
 use Rattle.lab_store.proofs.applying.apply.Goals as goal
 

@@ -2,7 +2,7 @@ use Rattle.std.proofs.Common.{List, find, slice_get, is_some, ap, ◌∙◌}
 use Rattle.sqlite_value.specs.Order.{Row}
 use Rattle.lab_store_tables.specs.Meaning.{has_code}
 use Rattle.lab_store_tables.specs.Ready.{tables_of}
-use Rattle.lab_store_columns.proofs.Readers.{reads_and}
+use Rattle.lab_store_read.proofs.Readers.{reads_and}
 use Rattle.lab_store.proofs.Endings.{shown_some}
 use Rattle.lab_store.proofs.places.is_there.Goals as goal
 

@@ -1,6 +1,6 @@
 use Rattle.std.proofs.Common.{w64}
 use Rattle.std.proofs.lemmas.Int.{to_z-of_z}
-use Rattle.lab_store_columns.proofs.Readers.{may_read, reads_as}
+use Rattle.lab_store_read.proofs.Readers.{may_read, reads_as}
 use Rattle.lab_store_load.proofs.counts.persons_after.Goals as goal
 
 pub returns-clause-reads : goal.returns-clause-reads

@@ -1,7 +1,7 @@
 use Rattle.std.proofs.Common.{w64, subst, IfSome}
 use Rattle.std.proofs.lemmas.Int.{to_z-of_z}
 use Rattle.lab_store_tables.specs.Ready.{tables_of}
-use Rattle.lab_store_columns.proofs.Readers.{may_read, reads_as}
+use Rattle.lab_store_read.proofs.Readers.{may_read, reads_as}
 use Rattle.lab_store_load.specs.Counts.{IsCounted}
 use Rattle.lab_store_load.proofs.Counting.{may_as}
 use Rattle.lab_store_load.proofs.counts.persons_counted.Goals as goal

@@ -1,7 +1,7 @@
 use Rattle.std.proofs.Common.{w64, rules, SFits}
 use Rattle.std.proofs.lemmas.Int.{to_z-of_z}
 use Rattle.lab_store_tables.specs.Ready.{tables_of}
-use Rattle.lab_store_columns.proofs.Readers.{may_and, may_end}
+use Rattle.lab_store_read.proofs.Readers.{may_and, may_end}
 use Rattle.lab_store_load.specs.Lists.{counts_by}
 use Rattle.lab_store_load.proofs.lists.counts_at.Goals as goal
 

@@ -1,6 +1,6 @@
 use Rattle.std.proofs.Common.{subst}
 use Rattle.lab_store_tables.specs.Ready.{tables_of}
-use Rattle.lab_store_columns.proofs.Causes.{cause_as}
+use Rattle.lab_store_read.proofs.Causes.{cause_as}
 use Rattle.lab_store_load.specs.Readable.{HasListOf}
 use Rattle.lab_store_load.proofs.lists.list_wanted.Goals as goal
 

@@ -1,7 +1,7 @@
 use Rattle.std.proofs.Common.{sym, ap, subst, ◌∙◌, IfSome}
 use Rattle.lab_store_tables.specs.Ready.{tables_of}
-use Rattle.lab_store_columns.proofs.Causes.{cause_as}
-use Rattle.lab_store_columns.proofs.Readers.{may_read, reads_as}
+use Rattle.lab_store_read.proofs.Causes.{cause_as}
+use Rattle.lab_store_read.proofs.Readers.{may_read, reads_as}
 use Rattle.lab_store_read_records.specs.Laboratories.{lab_by}
 use Rattle.lab_store_load.specs.Lists.{listed_by}
 use Rattle.lab_store_load.specs.Readable.{HasListOf}

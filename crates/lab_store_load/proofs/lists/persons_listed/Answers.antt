@@ -1,7 +1,7 @@
 use Rattle.std.proofs.Common.{◌∙◌, w64, rules, SFits}
 use Rattle.std.proofs.lemmas.Int.{to_z-of_z}
-use Rattle.lab_store_columns.proofs.Causes.{passed_so}
-use Rattle.lab_store_columns.proofs.Readers.{reads_and}
+use Rattle.lab_store_read.proofs.Causes.{passed_so}
+use Rattle.lab_store_read.proofs.Readers.{reads_and}
 use Rattle.lab_store_load.proofs.ListLemmas.{same_listed}
 use Rattle.lab_store_load.proofs.lists.persons_listed.Goals as goal
 

@@ -1,7 +1,7 @@
 use Rattle.std.proofs.Common.{◌∙◌, ap, sym, subst, option_map, IfSome}
 use Rattle.lab_store_tables.specs.Ready.{tables_of}
-use Rattle.lab_store_columns.proofs.Causes.{passed_on, then_so}
-use Rattle.lab_store_columns.proofs.Readers.{may_read, reads_fail, reads_then}
+use Rattle.lab_store_read.proofs.Causes.{passed_on, then_so}
+use Rattle.lab_store_read.proofs.Readers.{may_read, reads_fail, reads_then}
 use Rattle.lab_store_load.specs.Counts.{IsCounted}
 use Rattle.lab_store_load.specs.Parts.{slice_by}
 use Rattle.lab_store_load.specs.Readable.{HasSlice}

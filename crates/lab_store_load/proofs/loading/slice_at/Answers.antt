@@ -1,7 +1,7 @@
 use Rattle.std.proofs.Common.{◌∙◌, ap}
 use Rattle.lab_store_tables.specs.Ready.{tables_of}
-use Rattle.lab_store_columns.proofs.Causes.{passed_on, then_so}
-use Rattle.lab_store_columns.proofs.Readers.{may_end, may_then}
+use Rattle.lab_store_read.proofs.Causes.{passed_on, then_so}
+use Rattle.lab_store_read.proofs.Readers.{may_end, may_then}
 use Rattle.lab_store_load.specs.Parts.{slice_counted}
 use Rattle.lab_store_load.proofs.loading.slice_at.Goals as goal
 

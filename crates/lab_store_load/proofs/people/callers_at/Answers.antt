@@ -1,8 +1,8 @@
 use Rattle.std.proofs.Common.{◌∙◌, ap, sym, subst}
 use Rattle.lab_records_kept.specs.Lookups.{caller_of}
 use Rattle.lab_store_tables.specs.Ready.{tables_of}
-use Rattle.lab_store_columns.proofs.Causes.{passed_on, passed_so, then_so}
-use Rattle.lab_store_columns.proofs.Readers.{may_both}
+use Rattle.lab_store_read.proofs.Causes.{passed_on, passed_so, then_so}
+use Rattle.lab_store_read.proofs.Readers.{may_both}
 use Rattle.lab_store_read_records.specs.Laboratories.{lab_by}
 use Rattle.lab_store_load.specs.Readable.{HasCallerOf}
 use Rattle.lab_store_load.proofs.PeopleLemmas.{same_callers}

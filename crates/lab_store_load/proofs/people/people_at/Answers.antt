@@ -1,7 +1,7 @@
 use Rattle.std.proofs.Common.{ap}
 use Rattle.std.proofs.lemmas.Result.{err_from_is_err_and}
-use Rattle.lab_store_columns.proofs.Causes.{passed_on, passed_so, then_so}
-use Rattle.lab_store_columns.proofs.Readers.{may_both, may_fail}
+use Rattle.lab_store_read.proofs.Causes.{passed_on, passed_so, then_so}
+use Rattle.lab_store_read.proofs.Readers.{may_both, may_fail}
 use Rattle.lab_store_load.specs.declared.people.Callers.{Callers}
 use Rattle.lab_store_load.proofs.PeopleLemmas.{same_people}
 use Rattle.lab_store_load.proofs.people.people_at.Goals as goal

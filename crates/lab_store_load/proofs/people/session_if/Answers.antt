@@ -2,8 +2,8 @@ use Rattle.std.proofs.Common.{◌∙◌, ap, sym, subst, option_and_then, w64, r
 use Rattle.std.proofs.lemmas.Int.{to_z-of_z}
 use Rattle.lab_records_kept.specs.Lookups.{session_at}
 use Rattle.lab_store_tables.specs.Ready.{tables_of}
-use Rattle.lab_store_columns.proofs.Causes.{cause_as}
-use Rattle.lab_store_columns.proofs.Readers.{may_read, reads_as}
+use Rattle.lab_store_read.proofs.Causes.{cause_as}
+use Rattle.lab_store_read.proofs.Readers.{may_read, reads_as}
 use Rattle.lab_store_read_records.specs.Laboratories.{lab_by}
 use Rattle.lab_store_load.specs.Readable.{HasSessionOf}
 use Rattle.lab_store_load.proofs.people.session_if.Goals as goal

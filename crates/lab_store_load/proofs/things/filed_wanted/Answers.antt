@@ -2,8 +2,8 @@ use Rattle.std.proofs.Common.{◌∙◌, ap, sym, subst, w64, rules, SFits}
 use Rattle.std.proofs.lemmas.Int.{to_z-of_z}
 use Rattle.lab_records_kept.specs.Parts.{record_meant}
 use Rattle.lab_store_tables.specs.Ready.{tables_of}
-use Rattle.lab_store_columns.proofs.Causes.{cause_as}
-use Rattle.lab_store_columns.proofs.Readers.{reads_as}
+use Rattle.lab_store_read.proofs.Causes.{cause_as}
+use Rattle.lab_store_read.proofs.Readers.{reads_as}
 use Rattle.lab_store_read_records.specs.Laboratories.{lab_by}
 use Rattle.lab_store_load.specs.Readable.{HasFiledOf}
 use Rattle.lab_store_load.proofs.things.filed_wanted.Goals as goal

@@ -1,8 +1,8 @@
 use Rattle.std.proofs.Common.{option_and_then, sym, ap, subst, ◌∙◌, IfSome}
 use Rattle.lab_records_kept.specs.Parts.{form_meant}
 use Rattle.lab_store_tables.specs.Ready.{tables_of}
-use Rattle.lab_store_columns.proofs.Causes.{cause_as}
-use Rattle.lab_store_columns.proofs.Readers.{none_read, may_read, reads_as}
+use Rattle.lab_store_read.proofs.Causes.{cause_as}
+use Rattle.lab_store_read.proofs.Readers.{none_read, may_read, reads_as}
 use Rattle.lab_store_read_records.specs.Laboratories.{lab_by}
 use Rattle.lab_store_load.specs.Readable.{HasFormOf}
 use Rattle.lab_store_load.proofs.things.form_if.Goals as goal

@@ -1,7 +1,7 @@
 use Rattle.std.proofs.Common.{subst, w64, rules, SFits}
 use Rattle.std.proofs.lemmas.Int.{to_z-of_z}
 use Rattle.lab_store_tables.specs.Ready.{tables_of}
-use Rattle.lab_store_columns.proofs.Causes.{cause_as}
+use Rattle.lab_store_read.proofs.Causes.{cause_as}
 use Rattle.lab_store_load.specs.Readable.{HasFormOf}
 use Rattle.lab_store_load.proofs.things.form_wanted.Goals as goal
 

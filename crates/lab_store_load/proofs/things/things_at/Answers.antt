@@ -1,5 +1,5 @@
-use Rattle.lab_store_columns.proofs.Causes.{passed_on, passed_so, then_so}
-use Rattle.lab_store_columns.proofs.Readers.{may_both}
+use Rattle.lab_store_read.proofs.Causes.{passed_on, passed_so, then_so}
+use Rattle.lab_store_read.proofs.Readers.{may_both}
 use Rattle.lab_store_load.proofs.ThingLemmas.{same_things}
 use Rattle.lab_store_load.proofs.things.things_at.Goals as goal
 

@@ -1,4 +1,4 @@
-use Rattle.lab_store_columns.proofs.Unread.{no_text}
+use Rattle.lab_store_read.proofs.Unread.{no_text}
 use Rattle.lab_store_read_forms.proofs.Values.{text_unmade}
 use Rattle.lab_store_read_forms.proofs.cells.bound_of.Goals as goal
 

@@ -1,11 +1,11 @@
 use Rattle.std.proofs.Common.{w64, ◌∙◌, ap, map, sym, subst}
 use Rattle.std.proofs.lemmas.Int.{to_z-of_z}
 use Rattle.lab_store_tables.specs.Ready.{tables_of}
-use Rattle.lab_store_columns.proofs.Queries.{if_then}
-use Rattle.lab_store_columns.proofs.Readers.{reads_and}
+use Rattle.lab_store_read.proofs.Queries.{if_then}
+use Rattle.lab_store_read.proofs.Readers.{reads_and}
 use Rattle.lab_store_read_forms.specs.KindsShown.{name_read}
 use Rattle.lab_store_read_forms.proofs.KindsFound.{names_found}
-use Rattle.lab_store_columns.proofs.Causes.{made_so, made_if}
+use Rattle.lab_store_read.proofs.Causes.{made_so, made_if}
 use Rattle.std.specs.Prelude.{All}
 use Rattle.lab_store_read_forms.specs.Readable.{HasName}
 use Rattle.lab_store_read_forms.proofs.choices.names_at.Goals as goal

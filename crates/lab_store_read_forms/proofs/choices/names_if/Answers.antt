@@ -1,6 +1,6 @@
 use Rattle.std.proofs.Common.{w64, rules, IsTrue}
 use Rattle.std.proofs.lemmas.Int.{to_z-of_z}
-use Rattle.lab_store_columns.proofs.Causes.{cause_as}
+use Rattle.lab_store_read.proofs.Causes.{cause_as}
 use Rattle.lab_store_read_forms.proofs.choices.names_if.Goals as goal
 
 pub returns-clause-cause : goal.returns-clause-cause

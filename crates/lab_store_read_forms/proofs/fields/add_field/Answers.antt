@@ -1,6 +1,6 @@
 use Rattle.std.proofs.Common.{[], ◌∷◌, ◌++◌, ap, ◌∙◌}
-use Rattle.lab_store_columns.proofs.Readers.{may_end, may_and}
-use Rattle.lab_store_columns.proofs.Causes.{passed_on}
+use Rattle.lab_store_read.proofs.Readers.{may_end, may_and}
+use Rattle.lab_store_read.proofs.Causes.{passed_on}
 use Rattle.lab_store_read_forms.proofs.fields.add_field.Goals as goal
 
 pub returns-in_err-field-clause-reads : goal.returns-in_err-field-clause-reads

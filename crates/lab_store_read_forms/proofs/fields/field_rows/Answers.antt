@@ -1,9 +1,9 @@
 use Rattle.std.proofs.Common.{w64}
 use Rattle.std.proofs.lemmas.Int.{to_z-of_z}
-use Rattle.lab_store_columns.proofs.Readers.{rows_read}
+use Rattle.lab_store_read.proofs.Readers.{rows_read}
 use Rattle.lab_store_read_forms.proofs.Texts.{field_means}
 use Rattle.lab_store_read_forms.proofs.Exact.{fields_read}
-use Rattle.lab_store_columns.proofs.Causes.{asks_so}
+use Rattle.lab_store_read.proofs.Causes.{asks_so}
 use Rattle.lab_store_read_forms.proofs.Causes.{field_fits}
 use Rattle.lab_store_read_forms.proofs.fields.field_rows.Goals as goal
 

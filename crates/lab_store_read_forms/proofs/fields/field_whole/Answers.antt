@@ -1,6 +1,6 @@
 use Rattle.std.proofs.Common.{w64, rules, SFits, sym, ◌∙◌}
 use Rattle.std.proofs.lemmas.Int.{to_z-of_z}
-use Rattle.lab_store_columns.proofs.Causes.{passed_on}
+use Rattle.lab_store_read.proofs.Causes.{passed_on}
 use Rattle.lab_store_read_forms.proofs.fields.field_whole.Goals as goal
 
 pub returns-in_err-names-clause-cause : goal.returns-in_err-names-clause-cause

@@ -1,10 +1,10 @@
 use Rattle.std.proofs.Common.{w64, ◌∙◌, ap, option_map}
 use Rattle.std.proofs.lemmas.Int.{to_z-of_z}
 use Rattle.lab_store_tables.specs.Ready.{tables_of}
-use Rattle.lab_store_columns.proofs.Readers.{may_read, reads_then}
+use Rattle.lab_store_read.proofs.Readers.{may_read, reads_then}
 use Rattle.lab_store_read_forms.specs.Wholes.{record_by}
 use Rattle.lab_store_read_forms.proofs.FiledFound.{about_found}
-use Rattle.lab_store_columns.proofs.Causes.{then_so, passed_on}
+use Rattle.lab_store_read.proofs.Causes.{then_so, passed_on}
 use Rattle.lab_store_read_forms.proofs.Below.{first_own, about_below}
 use Rattle.lab_store_read_records.specs.Readable.{HasRecord}
 use Rattle.lab_store_read_records.specs.Retrieved.{abouts_shown}

@@ -1,6 +1,6 @@
 use Rattle.std.proofs.Common.{[], ◌∷◌, ◌++◌, ap, ◌∙◌}
-use Rattle.lab_store_columns.proofs.Readers.{reads_fail, reads_and}
-use Rattle.lab_store_columns.proofs.Causes.{passed_on}
+use Rattle.lab_store_read.proofs.Readers.{reads_fail, reads_and}
+use Rattle.lab_store_read.proofs.Causes.{passed_on}
 use Rattle.lab_store_read_forms.proofs.filed.add_formed.Goals as goal
 
 pub returns-in_err-kept-clause-reads : goal.returns-in_err-kept-clause-reads

@@ -2,8 +2,8 @@ use Rattle.std.proofs.Common.{w64, ◌∙◌, rules, SFits}
 use Rattle.std.proofs.lemmas.Int.{to_z-of_z}
 use Rattle.std.proofs.lemmas.Result.{err_from_is_err_and}
 use Rattle.lab_store_tables.specs.Ready.{tables_of}
-use Rattle.lab_store_columns.proofs.Readers.{may_read, may_end, may_both, may_fail}
-use Rattle.lab_store_columns.proofs.Causes.{then_so, passed_on, passed_so, none_told}
+use Rattle.lab_store_read.proofs.Readers.{may_read, may_end, may_both, may_fail}
+use Rattle.lab_store_read.proofs.Causes.{then_so, passed_on, passed_so, none_told}
 use Rattle.lab_store_read_forms.proofs.FormsBehind.{filed_behind}
 use Rattle.lab_store_read_forms.proofs.filed.add_record.Goals as goal
 

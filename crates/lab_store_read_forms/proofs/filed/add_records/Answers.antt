@@ -1,7 +1,7 @@
 use Rattle.std.proofs.Common.{◌≡◌, ◌∷◌, length, sym, ap, ◌∙◌, arith, rules}
 use Rattle.std.specs.Vec.Iter.{into_iter_items}
-use Rattle.lab_store_columns.proofs.Loops.{none_left, all_put, put_fails}
-use Rattle.lab_store_columns.proofs.Causes.{none_asked, one_asked, asked_fails, passed_on, none_told}
+use Rattle.lab_store_read.proofs.Loops.{none_left, all_put, put_fails}
+use Rattle.lab_store_read.proofs.Causes.{none_asked, one_asked, asked_fails, passed_on, none_told}
 use Rattle.lab_store_read_forms.specs.Readable.{HasParts}
 use Rattle.lab_store_read_forms.proofs.FormsBehind.{none_filed, one_filed, put_of}
 use Rattle.lab_store_read_forms.proofs.filed.add_records.Goals as goal

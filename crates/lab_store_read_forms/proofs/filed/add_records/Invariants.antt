@@ -1,6 +1,6 @@
 use Rattle.std.proofs.Common.{◌≡◌, length}
 use Rattle.std.specs.Vec.Iter.{into_iter_items, into_iter_len}
-use Rattle.lab_store_columns.proofs.Causes.{HasAsked}
+use Rattle.lab_store_read.proofs.Causes.{HasAsked}
 use Rattle.lab_store_read_forms.specs.Readable.{HasParts}
 use Rattle.lab_store_read_forms.proofs.FormsBehind.{HasFiled}
 use Rattle.lab_store_read_forms.proofs.filed.add_records.Given as goal

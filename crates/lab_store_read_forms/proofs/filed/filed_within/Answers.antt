@@ -1,10 +1,10 @@
 use Rattle.std.proofs.Common.{w64, ◌∙◌, ◌++◌, ap, map}
 use Rattle.std.proofs.lemmas.Int.{to_z-of_z}
 use Rattle.lab_store_tables.specs.Ready.{tables_of}
-use Rattle.lab_store_columns.proofs.Readers.{may_read, reads_both}
+use Rattle.lab_store_read.proofs.Readers.{may_read, reads_both}
 use Rattle.lab_store_read_forms.specs.Wholes.{record_by}
 use Rattle.lab_store_read_forms.proofs.FiledFound.{filed_built}
-use Rattle.lab_store_columns.proofs.Causes.{then_so, passed_on, none_told}
+use Rattle.lab_store_read.proofs.Causes.{then_so, passed_on, none_told}
 use Rattle.lab_store_read_forms.proofs.Below.{own_records, within_below}
 use Rattle.std.specs.Prelude.{All}
 use Rattle.lab_store_read_records.specs.Retrieved.{within_shown}

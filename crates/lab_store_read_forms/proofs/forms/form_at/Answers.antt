@@ -1,9 +1,9 @@
 use Rattle.std.proofs.Common.{w64, ◌∙◌, sym}
 use Rattle.std.proofs.lemmas.Int.{to_z-of_z}
 use Rattle.lab_store_tables.specs.Ready.{tables_of}
-use Rattle.lab_store_columns.proofs.Readers.{may_read, reads_then}
+use Rattle.lab_store_read.proofs.Readers.{may_read, reads_then}
 use Rattle.lab_store_read_forms.proofs.FormsFound.{form_is}
-use Rattle.lab_store_columns.proofs.Causes.{made_so, then_so, passed_on}
+use Rattle.lab_store_read.proofs.Causes.{made_so, then_so, passed_on}
 use Rattle.lab_store_read_forms.proofs.Below.{form_own, form_there, form_below}
 use Rattle.lab_store_read_forms.proofs.forms.form_at.Goals as goal
 

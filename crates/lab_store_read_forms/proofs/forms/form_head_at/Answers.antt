@@ -1,12 +1,12 @@
 use Rattle.std.proofs.Common.{w64, ◌∙◌, ap, option_map, slice_get, sym, subst}
 use Rattle.std.proofs.lemmas.Int.{to_z-of_z}
-use Rattle.lab_store_columns.specs.Causes.{HasFirst}
+use Rattle.lab_store_read.specs.Causes.{HasFirst}
 use Rattle.lab_store_tables.specs.Ready.{tables_of}
-use Rattle.lab_store_columns.proofs.Queries.{if_then}
-use Rattle.lab_store_columns.proofs.Readers.{reads_and}
+use Rattle.lab_store_read.proofs.Queries.{if_then}
+use Rattle.lab_store_read.proofs.Readers.{reads_and}
 use Rattle.lab_store_read_forms.specs.Shown.{form_read}
 use Rattle.lab_store_read_forms.proofs.FormsFound.{form_found}
-use Rattle.lab_store_columns.proofs.Causes.{made_so, made_if}
+use Rattle.lab_store_read.proofs.Causes.{made_so, made_if}
 use Rattle.lab_store_read_forms.specs.Readable.{HasForm}
 use Rattle.lab_store_read_forms.proofs.forms.form_head_at.Goals as goal
 

@@ -1,6 +1,6 @@
 use Rattle.std.proofs.Common.{w64, rules, List, IsTrue, SFits, sym, subst}
 use Rattle.std.proofs.lemmas.Int.{to_z-of_z}
-use Rattle.lab_store_columns.proofs.Causes.{passed_on, unread_so}
+use Rattle.lab_store_read.proofs.Causes.{passed_on, unread_so}
 use Rattle.lab_forms.specs.declared.forms.Field.{Field}
 use Rattle.lab_forms.specs.Forms.{is_form}
 use Rattle.lab_store_read_forms.proofs.forms.form_whole.Goals as goal

@@ -2,8 +2,8 @@
 use Rattle.std.proofs.Common.{◌≡◌, w64, Option, sym, subst}
 use Rattle.std.proofs.lemmas.Int.{to_z-of_z}
 use Rattle.std.specs.Prelude.{IfSome}
-use Rattle.lab_store_columns.specs.Reads.{MayRead}
-use Rattle.lab_store_columns.proofs.Readers.{may_read, reads_as}
+use Rattle.lab_store_read.specs.Reads.{MayRead}
+use Rattle.lab_store_read.proofs.Readers.{may_read, reads_as}
 use Rattle.lab_store_read_forms.specs.declared.heads.FormAt.{FormAt}
 use Rattle.lab_store_read_forms.specs.FormsBehind.{form_with_id, IsAtItsId}
 use Rattle.lab_store_read_forms.proofs.forms_behind.form_behind.Goals as goal

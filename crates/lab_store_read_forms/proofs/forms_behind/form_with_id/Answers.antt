@@ -1,7 +1,7 @@
 use Rattle.std.proofs.Common.{w64, ap₂}
 use Rattle.std.proofs.lemmas.Int.{to_z-of_z}
-use Rattle.lab_store_columns.proofs.Readers.{reads_fail, reads_and}
-use Rattle.lab_store_columns.proofs.Causes.{none_told, passed_so}
+use Rattle.lab_store_read.proofs.Readers.{reads_fail, reads_and}
+use Rattle.lab_store_read.proofs.Causes.{none_told, passed_so}
 use Rattle.lab_store_read_forms.proofs.FormsBehind.{form_with}
 use Rattle.lab_store_read_forms.proofs.forms_behind.form_with_id.Goals as goal
 

@@ -1,14 +1,14 @@
 use Rattle.std.proofs.Common.{w64, ◌∙◌, ap, ap₂, option_map, slice_get, sym, subst, List}
 use Rattle.std.proofs.lemmas.Int.{to_z-of_z}
 use Rattle.lab_records_kept.specs.Lookups.{exact_form}
-use Rattle.lab_store_columns.specs.Causes.{HasFirst}
+use Rattle.lab_store_read.specs.Causes.{HasFirst}
 use Rattle.lab_store_tables.specs.Meaning.{forms_of}
 use Rattle.lab_store_tables.specs.Ready.{tables_of}
-use Rattle.lab_store_columns.proofs.Readers.{may_read, reads_then}
+use Rattle.lab_store_read.proofs.Readers.{may_read, reads_then}
 use Rattle.lab_store_read_forms.specs.Forms.{form_by}
 use Rattle.lab_store_read_forms.specs.Shown.{form_read}
 use Rattle.lab_store_read_forms.proofs.FormsByCodeFound.{exact_found}
-use Rattle.lab_store_columns.proofs.Causes.{then_so, unread_so}
+use Rattle.lab_store_read.proofs.Causes.{then_so, unread_so}
 use Rattle.lab_store_read_forms.proofs.Below.{first_below, first_own}
 use Rattle.sqlite_value.specs.Order.{Row}
 use Rattle.lab_store_read_forms.specs.Readable.{HasForm, HasFields, HasWholeForm}

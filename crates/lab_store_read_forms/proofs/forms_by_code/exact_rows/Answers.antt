@@ -1,9 +1,9 @@
 use Rattle.std.proofs.Common.{w64}
 use Rattle.std.proofs.lemmas.Int.{to_z-of_z}
-use Rattle.lab_store_columns.proofs.Readers.{rows_read}
+use Rattle.lab_store_read.proofs.Readers.{rows_read}
 use Rattle.lab_store_read_forms.proofs.ByCodeTexts.{exact_means}
 use Rattle.lab_store_read_forms.proofs.ByCodeExact.{exact_read}
-use Rattle.lab_store_columns.proofs.Causes.{asks_so}
+use Rattle.lab_store_read.proofs.Causes.{asks_so}
 use Rattle.lab_store_read_forms.proofs.Causes.{exact_fits}
 use Rattle.lab_store_read_forms.proofs.forms_by_code.exact_rows.Goals as goal
 

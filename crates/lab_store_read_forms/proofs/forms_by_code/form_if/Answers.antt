@@ -1,8 +1,8 @@
 use Rattle.std.proofs.Common.{Some, option_map, sym, ap, ◌∙◌, Option, refl, subst}
 use Rattle.lab_store_tables.specs.Ready.{tables_of}
-use Rattle.lab_store_columns.proofs.Readers.{none_read, may_read, may_end, may_and}
+use Rattle.lab_store_read.proofs.Readers.{none_read, may_read, may_end, may_and}
 use Rattle.lab_store_read_forms.specs.Forms.{form_by}
-use Rattle.lab_store_columns.proofs.Causes.{none_told, passed_on}
+use Rattle.lab_store_read.proofs.Causes.{none_told, passed_on}
 use Rattle.std.specs.Prelude.{IfSome}
 use Rattle.lab_store_read_forms.specs.declared.heads.FormHead.{FormHead}
 use Rattle.lab_store_read_forms.specs.Readable.{HasFields}

@@ -3,11 +3,11 @@ use Rattle.std.proofs.lemmas.Int.{to_z-of_z}
 use Rattle.lab_records_kept.specs.Lookups.{last_of, last_form}
 use Rattle.lab_store_tables.specs.Meaning.{forms_of}
 use Rattle.lab_store_tables.specs.Ready.{tables_of}
-use Rattle.lab_store_columns.proofs.Readers.{may_read, reads_then}
+use Rattle.lab_store_read.proofs.Readers.{may_read, reads_then}
 use Rattle.lab_store_read_forms.specs.Forms.{form_by}
 use Rattle.lab_store_read_forms.specs.Shown.{form_read}
 use Rattle.lab_store_read_forms.proofs.FormsByCodeFound.{last_found}
-use Rattle.lab_store_columns.proofs.Causes.{then_so, unread_so}
+use Rattle.lab_store_read.proofs.Causes.{then_so, unread_so}
 use Rattle.lab_store_read_forms.proofs.Below.{first_below, last_own, HasLast}
 use Rattle.sqlite_value.specs.Order.{Row}
 use Rattle.lab_store_read_forms.specs.Readable.{HasForm, HasFields, HasWholeForm}

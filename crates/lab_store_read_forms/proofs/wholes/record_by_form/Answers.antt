@@ -1,8 +1,8 @@
 use Rattle.std.proofs.Common.{w64, ◌∙◌, ap, rules, SFits, sym, subst, false}
 use Rattle.std.proofs.lemmas.Int.{to_z-of_z}
-use Rattle.lab_store_columns.proofs.Queries.{if_then}
-use Rattle.lab_store_columns.proofs.Readers.{reads_fail, reads_and}
-use Rattle.lab_store_columns.proofs.Causes.{made_so, made_if, passed_on}
+use Rattle.lab_store_read.proofs.Queries.{if_then}
+use Rattle.lab_store_read.proofs.Readers.{reads_fail, reads_and}
+use Rattle.lab_store_read.proofs.Causes.{made_so, made_if, passed_on}
 use Rattle.lab_store_read_records.specs.Readable.{ArePlaced}
 use Rattle.lab_store_read_forms.specs.Wholes.{record_with}
 use Rattle.lab_store_read_forms.proofs.wholes.record_by_form.Goals as goal

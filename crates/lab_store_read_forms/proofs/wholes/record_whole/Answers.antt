@@ -3,8 +3,8 @@ use Rattle.std.proofs.lemmas.Int.{to_z-of_z}
 use Rattle.lab_records_kept.specs.declared.records.FormVersion.{FormVersion}
 use Rattle.lab_store_tables.specs.Meaning.{leaves_of}
 use Rattle.lab_store_tables.specs.Ready.{tables_of}
-use Rattle.lab_store_columns.proofs.Readers.{reads_fail, may_read, reads_then}
-use Rattle.lab_store_columns.proofs.Causes.{then_so, passed_on}
+use Rattle.lab_store_read.proofs.Readers.{reads_fail, may_read, reads_then}
+use Rattle.lab_store_read.proofs.Causes.{then_so, passed_on}
 use Rattle.lab_store_read_forms.specs.Wholes.{record_with}
 use Rattle.lab_store_read_forms.proofs.wholes.record_whole.Goals as goal
 

@@ -2,9 +2,9 @@ use Rattle.std.proofs.Common.{w64, length, ◌∙◌}
 use Rattle.std.proofs.lemmas.Int.{to_z-of_z}
 use Rattle.lab_store_tables.specs.Meaning.{persons_of}
 use Rattle.lab_store_tables.specs.Ready.{tables_of}
-use Rattle.lab_store_columns.proofs.Queries.{if_then}
-use Rattle.lab_store_columns.proofs.Readers.{reads_and}
-use Rattle.lab_store_columns.proofs.Causes.{made_so, made_there}
+use Rattle.lab_store_read.proofs.Queries.{if_then}
+use Rattle.lab_store_read.proofs.Readers.{reads_and}
+use Rattle.lab_store_read.proofs.Causes.{made_so, made_there}
 use Rattle.lab_store_read_people.proofs.CountAnswers.{number_is}
 use Rattle.lab_store_read_people.proofs.CountCauses.{number_stands}
 use Rattle.lab_store_read_people.proofs.counts.person_count.Goals as goal

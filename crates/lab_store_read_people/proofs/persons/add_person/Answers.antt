@@ -1,5 +1,5 @@
 use Rattle.std.proofs.Common.{[], ◌∷◌, ◌++◌, ap, ◌∙◌}
-use Rattle.lab_store_columns.proofs.Readers.{may_end, may_and}
+use Rattle.lab_store_read.proofs.Readers.{may_end, may_and}
 use Rattle.lab_store_read_people.proofs.persons.add_person.Goals as goal
 
 pub returns-in_err-person-clause-reads : goal.returns-in_err-person-clause-reads

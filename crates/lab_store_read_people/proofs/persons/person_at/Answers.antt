@@ -3,9 +3,9 @@ use Rattle.std.proofs.lemmas.Int.{to_z-of_z}
 use Rattle.lab_people_access.specs.Persons.{person_of}
 use Rattle.lab_store_tables.specs.Meaning.{persons_of}
 use Rattle.lab_store_tables.specs.Ready.{tables_of}
-use Rattle.lab_store_columns.proofs.Readers.{reads_then, may_read}
-use Rattle.lab_store_columns.specs.Causes.{HasFirst}
-use Rattle.lab_store_columns.proofs.Causes.{unread_so, then_so}
+use Rattle.lab_store_read.proofs.Readers.{reads_then, may_read}
+use Rattle.lab_store_read.specs.Causes.{HasFirst}
+use Rattle.lab_store_read.proofs.Causes.{unread_so, then_so}
 use Rattle.lab_store_read_people.specs.Heads.{person_by}
 use Rattle.lab_store_read_people.specs.PersonsReadable.{HasPerson, HasAsker, HasWholePerson}
 use Rattle.lab_store_read_people.specs.PersonsShown.{person_read, person_shown_by}

@@ -1,9 +1,9 @@
 use Rattle.std.proofs.Common.{w64, ◌∙◌, ap, sym, subst, map, All}
 use Rattle.std.proofs.lemmas.Int.{to_z-of_z}
 use Rattle.lab_store_tables.specs.Ready.{tables_of}
-use Rattle.lab_store_columns.proofs.Queries.{if_then}
-use Rattle.lab_store_columns.proofs.Readers.{reads_and}
-use Rattle.lab_store_columns.proofs.Causes.{made_so, made_if}
+use Rattle.lab_store_read.proofs.Queries.{if_then}
+use Rattle.lab_store_read.proofs.Readers.{reads_and}
+use Rattle.lab_store_read.proofs.Causes.{made_so, made_if}
 use Rattle.lab_store_read_people.specs.PersonsReadable.{HasPerson}
 use Rattle.lab_store_read_people.specs.PersonsShown.{person_read}
 use Rattle.lab_store_read_people.proofs.PersonsFound.{persons_found}

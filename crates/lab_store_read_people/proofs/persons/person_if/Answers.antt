@@ -1,6 +1,6 @@
 use Rattle.std.proofs.Common.{Some, option_map, sym, ap, ◌∙◌}
 use Rattle.lab_store_tables.specs.Ready.{tables_of}
-use Rattle.lab_store_columns.proofs.Readers.{none_read, may_end, may_and}
+use Rattle.lab_store_read.proofs.Readers.{none_read, may_end, may_and}
 use Rattle.lab_store_read_people.specs.Heads.{person_by}
 use Rattle.lab_store_read_people.proofs.persons.person_if.Goals as goal
 

@@ -1,4 +1,4 @@
-use Rattle.lab_store_columns.proofs.Causes.{one_unread}
+use Rattle.lab_store_read.proofs.Causes.{one_unread}
 use Rattle.lab_store_read_people.specs.PersonsReadable.{HasPerson}
 use Rattle.lab_store_read_people.specs.PersonsShown.{person_read}
 use Rattle.lab_store_read_people.proofs.PersonLists.{mapped_more}

@@ -1,7 +1,7 @@
 use Rattle.std.proofs.Common.{w64}
 use Rattle.std.proofs.lemmas.Int.{to_z-of_z}
-use Rattle.lab_store_columns.proofs.Readers.{rows_read}
-use Rattle.lab_store_columns.proofs.Causes.{asks_so}
+use Rattle.lab_store_read.proofs.Readers.{rows_read}
+use Rattle.lab_store_read.proofs.Causes.{asks_so}
 use Rattle.lab_store_read_people.proofs.PersonTexts.{persons_means}
 use Rattle.lab_store_read_people.proofs.PersonsExact.{persons_rows_read}
 use Rattle.lab_store_read_people.proofs.PersonCauses.{persons_fits}

@@ -3,10 +3,10 @@ use Rattle.std.proofs.lemmas.Int.{to_z-of_z}
 use Rattle.lab_people_access.specs.Sessions.{session_of}
 use Rattle.lab_store_tables.specs.Meaning.{sessions_of}
 use Rattle.lab_store_tables.specs.Ready.{tables_of}
-use Rattle.lab_store_columns.proofs.Queries.{if_then}
-use Rattle.lab_store_columns.proofs.Readers.{reads_and}
-use Rattle.lab_store_columns.specs.Causes.{HasFirst}
-use Rattle.lab_store_columns.proofs.Causes.{made_so, made_if}
+use Rattle.lab_store_read.proofs.Queries.{if_then}
+use Rattle.lab_store_read.proofs.Readers.{reads_and}
+use Rattle.lab_store_read.specs.Causes.{HasFirst}
+use Rattle.lab_store_read.proofs.Causes.{made_so, made_if}
 use Rattle.lab_store_read_people.specs.SessionsShown.{session_read, sessions_shown, HasSession}
 use Rattle.lab_store_read_people.proofs.SessionsFound.{session_found}
 use Rattle.lab_store_read_people.proofs.sessions.session_at.Goals as goal

@@ -1,10 +1,10 @@
 use Rattle.std.proofs.Common.{◌≡◌, ◌∷◌, length, sym, ap, ◌∙◌, arith, rules}
 use Rattle.std.specs.Vec.Iter.{into_iter_items}
-use Rattle.lab_store_columns.proofs.Causes.{none_asked, one_asked, asked_fails, all_asked, passed_so}
-use Rattle.lab_store_columns.proofs.Loops.{none_left, all_put, put_fails}
+use Rattle.lab_store_read.proofs.Causes.{none_asked, one_asked, asked_fails, all_asked, passed_so}
+use Rattle.lab_store_read.proofs.Loops.{none_left, all_put, put_fails}
 use Rattle.lab_store_read_records.specs.Readable.{HasWriter}
 use Rattle.lab_store_read_records.specs.Heads.{entry_by}
-use Rattle.lab_store_columns.proofs.PutOnce.{none_put_once, one_put_once, put_so}
+use Rattle.lab_store_read.proofs.PutOnce.{none_put_once, one_put_once, put_so}
 use Rattle.lab_store_read_records.proofs.entries.add_entries.Goals as goal
 
 pub loop-head-init : goal.loop-head-init

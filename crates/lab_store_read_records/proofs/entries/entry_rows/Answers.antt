@@ -2,8 +2,8 @@ use Rattle.std.proofs.Common.{w64}
 use Rattle.std.proofs.lemmas.Int.{to_z-of_z}
 use Rattle.lab_store_read_records.proofs.Texts.{entry_means}
 use Rattle.lab_store_read_records.proofs.Exact.{entries_read}
-use Rattle.lab_store_columns.proofs.Readers.{rows_read}
-use Rattle.lab_store_columns.proofs.Causes.{asks_so}
+use Rattle.lab_store_read.proofs.Readers.{rows_read}
+use Rattle.lab_store_read.proofs.Causes.{asks_so}
 use Rattle.lab_store_read_records.proofs.Causes.{entry_fits}
 use Rattle.lab_store_read_records.proofs.entries.entry_rows.Goals as goal
 

@@ -1,7 +1,7 @@
 use Rattle.std.proofs.Common.{ap, w64, rules, SFits}
 use Rattle.std.proofs.lemmas.Int.{to_z-of_z}
-use Rattle.lab_store_columns.proofs.Readers.{may_end, may_and}
-use Rattle.lab_store_columns.proofs.Causes.{passed_on}
+use Rattle.lab_store_read.proofs.Readers.{may_end, may_and}
+use Rattle.lab_store_read.proofs.Causes.{passed_on}
 use Rattle.lab_store_read_records.proofs.Found.{entry_with}
 use Rattle.lab_store_read_records.proofs.entries.entry_whole.Goals as goal
 

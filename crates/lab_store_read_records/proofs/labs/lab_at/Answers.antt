@@ -1,13 +1,13 @@
 use Rattle.std.proofs.Common.{◌∙◌, ap, find, option_map, slice_get, sym, subst}
-use Rattle.lab_store_columns.specs.Causes.{HasFirst}
+use Rattle.lab_store_read.specs.Causes.{HasFirst}
 use Rattle.lab_store_tables.specs.Meaning.{has_code}
 use Rattle.lab_store_tables.specs.Ready.{tables_of}
 use Rattle.lab_store_read_records.specs.Heads.{lab_head}
 use Rattle.lab_store_read_records.specs.Shown.{labs_shown, lab_read}
 use Rattle.lab_store_read_records.proofs.Found.{lab_found}
-use Rattle.lab_store_columns.proofs.Queries.{if_then}
-use Rattle.lab_store_columns.proofs.Readers.{reads_and}
-use Rattle.lab_store_columns.proofs.Causes.{made_so, made_if}
+use Rattle.lab_store_read.proofs.Queries.{if_then}
+use Rattle.lab_store_read.proofs.Readers.{reads_and}
+use Rattle.lab_store_read.proofs.Causes.{made_so, made_if}
 use Rattle.lab_store_read_records.specs.Readable.{HasLab}
 use Rattle.lab_store_read_records.proofs.labs.lab_at.Goals as goal
 

@@ -1,5 +1,5 @@
-use Rattle.lab_store_columns.proofs.Readers.{rows_read, rows_kept}
-use Rattle.lab_store_columns.proofs.Causes.{asks_so}
+use Rattle.lab_store_read.proofs.Readers.{rows_read, rows_kept}
+use Rattle.lab_store_read.proofs.Causes.{asks_so}
 use Rattle.lab_store_read_records.proofs.Causes.{lab_fits}
 use Rattle.lab_store_read_records.proofs.Texts.{lab_means}
 use Rattle.lab_store_read_records.proofs.Exact.{labs_read}

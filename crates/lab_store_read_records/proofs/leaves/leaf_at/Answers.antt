@@ -1,9 +1,9 @@
 use Rattle.std.proofs.Common.{◌∙◌, w64, rules, SFits}
 use Rattle.std.proofs.lemmas.Int.{to_z-of_z}
 use Rattle.lab_store_tables.specs.Ready.{tables_of}
-use Rattle.lab_store_columns.proofs.Readers.{may_read, reads_both}
+use Rattle.lab_store_read.proofs.Readers.{may_read, reads_both}
 use Rattle.lab_store_read_records.proofs.Found.{leaf_built}
-use Rattle.lab_store_columns.proofs.Causes.{then_so, passed_on, none_told}
+use Rattle.lab_store_read.proofs.Causes.{then_so, passed_on, none_told}
 use Rattle.lab_store_read_records.specs.Readable.{HasLeaf}
 use Rattle.lab_store_read_records.proofs.leaves.leaf_at.Goals as goal
 

@@ -1,11 +1,11 @@
 use Rattle.std.proofs.Common.{◌≡◌, ◌∷◌, length, map, sym, ap, ◌∙◌, arith, rules}
 use Rattle.std.specs.Vec.Iter.{into_iter_items}
-use Rattle.lab_store_columns.proofs.Readers.{may_read}
-use Rattle.lab_store_columns.proofs.Loops.{none_left, none_put, one_put, all_put, put_fails}
+use Rattle.lab_store_read.proofs.Readers.{may_read}
+use Rattle.lab_store_read.proofs.Loops.{none_left, none_put, one_put, all_put, put_fails}
 use Rattle.lab_store_read_records.specs.Leaves.{leaf_of, leaf_by}
 use Rattle.lab_store_read_records.specs.Readable.{HasLeaf}
 use Rattle.lab_store_read_records.specs.declared.heads.VersionHead.{VersionHead}
-use Rattle.lab_store_columns.proofs.Causes.{none_asked, one_asked, asked_fails, passed_on, none_told}
+use Rattle.lab_store_read.proofs.Causes.{none_asked, one_asked, asked_fails, passed_on, none_told}
 use Rattle.lab_store_read_records.proofs.record_leaves.add_leaves.Goals as goal
 
 pub loop-head-init : goal.loop-head-init

@@ -1,10 +1,10 @@
 use Rattle.std.proofs.Common.{◌≡◌, length, map}
 use Rattle.std.specs.Vec.Iter.{into_iter_items, into_iter_len}
-use Rattle.lab_store_columns.proofs.Loops.{HasPut}
+use Rattle.lab_store_read.proofs.Loops.{HasPut}
 use Rattle.lab_store_read_records.specs.Leaves.{leaf_of, leaf_by}
 use Rattle.lab_store_read_records.specs.Readable.{HasLeaf}
 use Rattle.lab_store_read_records.specs.declared.heads.VersionHead.{VersionHead}
-use Rattle.lab_store_columns.proofs.Causes.{HasAsked}
+use Rattle.lab_store_read.proofs.Causes.{HasAsked}
 use Rattle.lab_store_read_records.proofs.record_leaves.add_leaves.Given as goal
 
 -- the versions so far, and those to come, are all, and those to come are readable where all are

@@ -1,11 +1,11 @@
 use Rattle.std.proofs.Common.{w64, ◌∙◌, ◌++◌, ap, map}
 use Rattle.std.proofs.lemmas.Int.{to_z-of_z}
 use Rattle.lab_store_tables.specs.Ready.{tables_of}
-use Rattle.lab_store_columns.proofs.Readers.{may_read, reads_both}
+use Rattle.lab_store_read.proofs.Readers.{may_read, reads_both}
 use Rattle.lab_store_read_records.specs.Leaves.{leaf_of, leaf_by}
 use Rattle.lab_store_read_records.proofs.RetrievalFound.{leaves_found}
 use Rattle.lab_store_read_records.proofs.Below.{own_rows, leaves_below}
-use Rattle.lab_store_columns.proofs.Causes.{then_so, passed_on, none_told}
+use Rattle.lab_store_read.proofs.Causes.{then_so, passed_on, none_told}
 use Rattle.std.specs.Prelude.{All}
 use Rattle.lab_store_read_records.specs.Readable.{HasWholeVersion}
 use Rattle.lab_store_read_records.specs.Shown.{versions_shown}

@@ -1,13 +1,13 @@
 use Rattle.std.proofs.Common.{w64, ◌∙◌, ap, find, option_map, slice_get, sym, subst}
 use Rattle.std.proofs.lemmas.Int.{to_z-of_z}
-use Rattle.lab_store_columns.specs.Causes.{HasFirst}
+use Rattle.lab_store_read.specs.Causes.{HasFirst}
 use Rattle.lab_store_tables.specs.Ready.{tables_of}
 use Rattle.lab_store_read_records.specs.Heads.{is_record, record_head}
 use Rattle.lab_store_read_records.specs.Shown.{records_shown, record_read}
 use Rattle.lab_store_read_records.proofs.Found.{record_found}
-use Rattle.lab_store_columns.proofs.Queries.{if_then}
-use Rattle.lab_store_columns.proofs.Readers.{reads_and}
-use Rattle.lab_store_columns.proofs.Causes.{made_so, made_if}
+use Rattle.lab_store_read.proofs.Queries.{if_then}
+use Rattle.lab_store_read.proofs.Readers.{reads_and}
+use Rattle.lab_store_read.proofs.Causes.{made_so, made_if}
 use Rattle.lab_store_read_records.specs.Readable.{HasRecord}
 use Rattle.lab_store_read_records.proofs.records.record_at.Goals as goal
 

@@ -1,14 +1,14 @@
 use Rattle.std.proofs.Common.{w64, ◌∙◌, ap, ap₂, find, option_map, slice_get, sym, subst}
 use Rattle.std.proofs.lemmas.Int.{to_z-of_z}
-use Rattle.lab_store_columns.specs.Causes.{HasFirst}
+use Rattle.lab_store_read.specs.Causes.{HasFirst}
 use Rattle.lab_store_tables.specs.Ready.{tables_of}
 use Rattle.lab_store_read_records.specs.Heads.{record_head}
 use Rattle.lab_store_read_records.specs.Shown.{record_read}
-use Rattle.lab_store_columns.proofs.Queries.{if_then}
-use Rattle.lab_store_columns.proofs.Readers.{reads_and}
+use Rattle.lab_store_read.proofs.Queries.{if_then}
+use Rattle.lab_store_read.proofs.Readers.{reads_and}
 use Rattle.lab_store_read_records.specs.Sought.{is_about}
 use Rattle.lab_store_read_records.proofs.RetrievalFound.{about_found}
-use Rattle.lab_store_columns.proofs.Causes.{made_so, made_if}
+use Rattle.lab_store_read.proofs.Causes.{made_so, made_if}
 use Rattle.lab_store_read_records.specs.Readable.{HasRecord}
 use Rattle.lab_store_read_records.specs.Retrieved.{abouts_shown}
 use Rattle.lab_store_read_records.proofs.retrieved_records.record_about.Goals as goal

@@ -2,11 +2,11 @@ use Rattle.std.proofs.Common.{w64, ◌∙◌, ap, ap₂, map, sym, subst}
 use Rattle.std.proofs.lemmas.Int.{to_z-of_z}
 use Rattle.lab_store_tables.specs.Ready.{tables_of}
 use Rattle.lab_store_read_records.specs.Shown.{record_read}
-use Rattle.lab_store_columns.proofs.Queries.{if_then}
-use Rattle.lab_store_columns.proofs.Readers.{reads_and}
+use Rattle.lab_store_read.proofs.Queries.{if_then}
+use Rattle.lab_store_read.proofs.Readers.{reads_and}
 use Rattle.lab_store_read_records.specs.Sought.{heads_within}
 use Rattle.lab_store_read_records.proofs.RetrievalFound.{within_found}
-use Rattle.lab_store_columns.proofs.Causes.{made_so, made_if}
+use Rattle.lab_store_read.proofs.Causes.{made_so, made_if}
 use Rattle.std.specs.Prelude.{All}
 use Rattle.lab_store_read_records.specs.Readable.{HasRecord}
 use Rattle.lab_store_read_records.specs.Retrieved.{within_shown}

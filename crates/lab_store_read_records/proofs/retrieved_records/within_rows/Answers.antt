@@ -1,9 +1,9 @@
 use Rattle.std.proofs.Common.{w64}
 use Rattle.std.proofs.lemmas.Int.{to_z-of_z}
-use Rattle.lab_store_columns.proofs.Readers.{rows_read}
+use Rattle.lab_store_read.proofs.Readers.{rows_read}
 use Rattle.lab_store_read_records.proofs.RetrievalTexts.{within_means}
 use Rattle.lab_store_read_records.proofs.RetrievalExact.{within_read}
-use Rattle.lab_store_columns.proofs.Causes.{asks_so}
+use Rattle.lab_store_read.proofs.Causes.{asks_so}
 use Rattle.lab_store_read_records.proofs.Causes.{within_fits}
 use Rattle.lab_store_read_records.proofs.retrieved_records.within_rows.Goals as goal
 

@@ -3,9 +3,9 @@ use Rattle.std.proofs.lemmas.Int.{to_z-of_z}
 use Rattle.lab_store_tables.specs.Ready.{tables_of}
 use Rattle.lab_store_read_records.specs.Shown.{version_read}
 use Rattle.lab_store_read_records.proofs.Found.{versions_found}
-use Rattle.lab_store_columns.proofs.Queries.{if_then}
-use Rattle.lab_store_columns.proofs.Readers.{reads_and}
-use Rattle.lab_store_columns.proofs.Causes.{made_so, made_if}
+use Rattle.lab_store_read.proofs.Queries.{if_then}
+use Rattle.lab_store_read.proofs.Readers.{reads_and}
+use Rattle.lab_store_read.proofs.Causes.{made_so, made_if}
 use Rattle.std.specs.Prelude.{All}
 use Rattle.lab_store_read_records.specs.Readable.{HasVersion}
 use Rattle.lab_store_read_records.proofs.versions.versions_at.Goals as goal

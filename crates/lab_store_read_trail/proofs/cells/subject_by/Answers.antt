@@ -3,9 +3,9 @@ use Rattle.std.specs.Str.{is_utf8}
 use Rattle.std.proofs.lemmas.Str.{is_utf8-from_IsUtf8}
 use Rattle.lab_forms_texts.specs.declared.refusals.Fault.{Fault}
 use Rattle.lab_forms_texts.specs.declared.refusals.Fault.TheVariants.{Memory}
-use Rattle.lab_records_kept.specs.declared.faults.BadStore.{BadStore}
-use Rattle.lab_store_columns.specs.Cells.{IsNotMade}
-use Rattle.lab_store_columns.proofs.Unread.{no_text}
+use Rattle.lab_records_keeper.specs.declared.faults.BadStore.{BadStore}
+use Rattle.lab_store_read.specs.Cells.{IsNotMade}
+use Rattle.lab_store_read.proofs.Unread.{no_text}
 use Rattle.lab_store_read_trail.proofs.cells.subject_by.Goals as goal
 
 -- memory runs out for a text alone

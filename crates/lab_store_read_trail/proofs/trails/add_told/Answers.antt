@@ -1,5 +1,5 @@
 use Rattle.std.proofs.Common.{[], ◌∷◌, ◌++◌, ap, ◌∙◌}
-use Rattle.lab_store_columns.proofs.Readers.{may_end, may_and}
+use Rattle.lab_store_read.proofs.Readers.{may_end, may_and}
 use Rattle.lab_store_read_trail.proofs.trails.add_told.Goals as goal
 
 pub returns-in_err-told-clause-reads : goal.returns-in_err-told-clause-reads

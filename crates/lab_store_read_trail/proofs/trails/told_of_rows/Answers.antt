@@ -1,4 +1,4 @@
-use Rattle.lab_store_columns.proofs.Causes.{one_unread}
+use Rattle.lab_store_read.proofs.Causes.{one_unread}
 use Rattle.lab_store_read_trail.specs.Readable.{HasTold}
 use Rattle.lab_store_read_trail.proofs.trails.told_of_rows.Goals as goal
 

@@ -1,5 +1,5 @@
 use Rattle.std.proofs.Common.{ap}
-use Rattle.lab_store_columns.proofs.Readers.{may_end, may_and}
+use Rattle.lab_store_read.proofs.Readers.{may_end, may_and}
 use Rattle.lab_store_read_trail.proofs.TrailsFound.{told_with}
 use Rattle.lab_store_read_trail.proofs.trails.told_whole.Goals as goal
 

@@ -1,8 +1,8 @@
 use Rattle.std.proofs.Common.{w64, ◌∙◌, ◌++◌, ap, map, sym, subst, All}
 use Rattle.std.proofs.lemmas.Int.{to_z-of_z}
 use Rattle.lab_store_tables.specs.Ready.{tables_of}
-use Rattle.lab_store_columns.proofs.Causes.{passed_on, passed_so, then_so}
-use Rattle.lab_store_columns.proofs.Readers.{may_read, reads_both}
+use Rattle.lab_store_read.proofs.Causes.{passed_on, passed_so, then_so}
+use Rattle.lab_store_read.proofs.Readers.{may_read, reads_both}
 use Rattle.lab_store_read_trail.specs.Readable.{HasDoer}
 use Rattle.lab_store_read_trail.specs.Trails.{told_by}
 use Rattle.lab_store_read_trail.proofs.TrailsFound.{told_built}

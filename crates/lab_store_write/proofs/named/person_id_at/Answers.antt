@@ -1,4 +1,4 @@
-use Rattle.lab_store_columns.proofs.Queries.{if_then}
+use Rattle.lab_store_read.proofs.Queries.{if_then}
 use Rattle.lab_store_write.proofs.Writers.{and_so}
 use Rattle.lab_store_write.proofs.KeyLemmas.{person_found}
 use Rattle.lab_store_write.proofs.named.person_id_at.Goals as goal

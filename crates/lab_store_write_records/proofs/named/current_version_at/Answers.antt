@@ -1,4 +1,4 @@
-use Rattle.lab_store_columns.proofs.Queries.{if_then}
+use Rattle.lab_store_read.proofs.Queries.{if_then}
 use Rattle.lab_store_write.proofs.Writers.{and_so}
 use Rattle.lab_store_write_records.specs.VersionsShown.{current_of}
 use Rattle.lab_store_write_records.proofs.VersionKeyLemmas.{version_found}

@@ -1,5 +1,5 @@
 use Rattle.std.proofs.Common.{refl}
-use Rattle.lab_store_columns.proofs.Queries.{if_then}
+use Rattle.lab_store_read.proofs.Queries.{if_then}
 use Rattle.lab_store_write.proofs.Writers.{and_so}
 use Rattle.lab_store_write_records.proofs.RecordKeyLemmas.{form_found}
 use Rattle.lab_store_write_records.proofs.named_forms.form_id_at.Goals as goal

@@ -1,6 +1,6 @@
 -- The answer that was written is the witness; one event is a run by the lemmas of `Running`.
-use Rattle.lab_desk_runs.proofs.Leaving.{call_leaves, found_leaves, request_lives}
-use Rattle.lab_desk_runs.proofs.Running.{one_founding, one_call, sent_as}
+use Rattle.lab_desk_events.proofs.Leaving.{call_leaves, found_leaves, request_lives}
+use Rattle.lab_desk_events.proofs.Running.{one_founding, one_call, sent_as}
 use Rattle.lab_desk.proofs.desk.Desk.answer.Goals as goal
 
 pub returns-in-Found-clause-answered : goal.returns-in-Found-clause-answered
@@ -12,7 +12,7 @@ returns-in-Found-clause-answered g c = λ within honest reached. (
       (c.answer_founding-line.ensures.passes.live honest)
       (c.answer_founding-line.ensures.taken honest reached)
       (c.answer_founding-line.ensures.refused honest reached),
-  sent_as _ _ _ _ c.write_reply.ensures.whole c.write_reply.ensures.cut c.write_reply.ensures.short,
+  sent_as _ _ _ _ c.write_whole.ensures.whole c.write_whole.ensures.cut c.write_whole.ensures.short,
 )
 
 pub returns-in-Call-clause-answered : goal.returns-in-Call-clause-answered
@@ -23,8 +23,8 @@ returns-in-Call-clause-answered g c = λ within honest reached. (
       c.in-Call.is c.as_slice-in-Call.ensures c.reply.ensures (c.handle.ensures.passes.live honest)
       within
       (c.handle.ensures.taken within honest reached) (c.handle.ensures.refused honest reached),
-  sent_as _ _ _ _ c.write_reply-in-Call.ensures.whole c.write_reply-in-Call.ensures.cut
-      c.write_reply-in-Call.ensures.short,
+  sent_as _ _ _ _ c.write_whole-in-Call.ensures.whole c.write_whole-in-Call.ensures.cut
+      c.write_whole-in-Call.ensures.short,
 )
 
 pub returns-in-Found-clause-leaves : goal.returns-in-Found-clause-leaves

@@ -2,8 +2,8 @@
 use Rattle.lab_desk_foundings.specs.Foundings.{founding_in}
 use Rattle.lab_desk_foundings.proofs.Bearing.{takes_founded, takes_refused}
 use Rattle.std.proofs.Common.{inl}
-use Rattle.lab_desk_runs.proofs.Lasting.{still_stays}
-use Rattle.lab_desk_runs.proofs.Leaving.{lives_refused, settles_refused}
+use Rattle.lab_desk_events.proofs.Lasting.{still_stays}
+use Rattle.lab_desk_events.proofs.Leaving.{lives_refused, settles_refused}
 use Rattle.lab_desk.proofs.desk.Desk.answer_founding.Goals as goal
 use Rattle.lab_desk.proofs.desk.Desk.answer_founding.Goals.{in-Ok-found, in-Err}
 

@@ -1,5 +1,5 @@
 -- What the keeper promises of a part that is loaded, and that what stays true over a request stays so.
-use Rattle.lab_desk_runs.proofs.Lasting.{quiet_stays}
+use Rattle.lab_desk_events.proofs.Lasting.{quiet_stays}
 use Rattle.lab_desk.proofs.desk.Desk.answers.Goals as goal
 
 pub returns-in-Ok-clause-asked : goal.returns-in-Ok-clause-asked

@@ -1,10 +1,10 @@
 -- What was founded from the newborn was founded from its body, and is right as it is born.
 use Rattle.lab_records_kept.specs.Births.{newborn_lab}
 use Rattle.lab_desk_foundings.proofs.Bearing.{founds_as}
-use Rattle.lab_desk_runs.proofs.Copying.{placed_legible}
-use Rattle.lab_desk_runs.proofs.Keeping.{placed_keeps}
-use Rattle.lab_desk_runs.proofs.Lasting.{left_stays, still_stays}
-use Rattle.lab_desk_runs.proofs.Staying.{placed_within, placed_releasing, placed_leaves_within, placed_leaves_releasing}
+use Rattle.lab_desk_events.proofs.Copying.{placed_legible}
+use Rattle.lab_desk_events.proofs.Keeping.{placed_keeps}
+use Rattle.lab_desk_events.proofs.Lasting.{left_stays, still_stays}
+use Rattle.lab_desk_events.proofs.Staying.{placed_within, placed_releasing, placed_leaves_within, placed_leaves_releasing}
 use Rattle.lab_desk.proofs.desk.Desk.found.Goals as goal
 
 pub returns-clause-founded : goal.returns-clause-founded

@@ -1,5 +1,5 @@
 -- What was asked of a laboratory was handled, by its lemma.
-use Rattle.lab_desk_runs.proofs.Staying.{asked_within}
+use Rattle.lab_desk_events.proofs.Staying.{asked_within}
 use Rattle.lab_desk.proofs.HandlingLemmas.{asked_so}
 use Rattle.lab_desk.proofs.desk.Desk.handle_asked.Goals as goal
 

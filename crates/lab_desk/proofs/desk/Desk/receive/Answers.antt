@@ -6,7 +6,7 @@ use Rattle.lab_wire_received.specs.Receptions.{IsReception}
 use Rattle.lab_wire.specs.Asked.{asked}
 use Rattle.lab_wire.specs.declared.refusals.RequestRefusal.TheVariants.{Head}
 use Rattle.lab_desk.specs.Serving.{Serves}
-use Rattle.lab_desk_runs.proofs.Lasting.{still_stays}
+use Rattle.lab_desk_events.proofs.Lasting.{still_stays}
 use Rattle.lab_desk.proofs.HandlingLemmas.{exhausted_so, refused_so}
 use Rattle.lab_desk.proofs.Receiving.{asked_as, refused_as, some_asked}
 use Rattle.lab_desk.proofs.desk.Desk.receive.Goals as goal

@@ -1,12 +1,12 @@
 -- The run goes on by each event; a write fault ends it within the answer of its last event.
 use Rattle.std.proofs.Common.{rules, ◌≡◌, ◌+◌, [], ◌∷◌, ◌++◌, length, map, refl, subst, take, arith}
 use Rattle.std.proofs.lemmas.List.{take_all}
-use Rattle.lab_desk_runs.specs.Leaving.{IsLiveToLast, LeavesRun}
-use Rattle.lab_desk_runs.specs.Runs.{Runs}
-use Rattle.lab_desk_runs.proofs.Lasting.{stays_first, stays_after}
-use Rattle.lab_desk_runs.proofs.Leaving.{leaves_of, living_more, living_none}
-use Rattle.lab_desk_runs.proofs.Running.{run_more, run_cut, runs_none}
-use Rattle.lab_desk_runs.specs.Alone.{happening}
+use Rattle.lab_desk_events.specs.Leaving.{IsLiveToLast, LeavesRun}
+use Rattle.lab_desk_events.specs.Runs.{Runs}
+use Rattle.lab_desk_events.proofs.Lasting.{stays_first, stays_after}
+use Rattle.lab_desk_events.proofs.Leaving.{leaves_of, living_more, living_none}
+use Rattle.lab_desk_events.proofs.Running.{run_more, run_cut, runs_none}
+use Rattle.lab_desk_events.specs.Alone.{happening}
 use Rattle.lab_desk.proofs.Happenings.{as_many, happening_at, within_happenings}
 use Rattle.lab_desk.proofs.desk.Desk.run.Goals as goal
 

@@ -1,9 +1,9 @@
 use Rattle.std.proofs.Common.{◌≡◌, ◌≤◌, take, length, map, vec_capacity}
-use Rattle.lab_records_kept.specs.Worlds.{Passes}
-use Rattle.lab_desk_runs.specs.Alone.{happening}
-use Rattle.lab_desk_runs.specs.Keeping.{GivenWithin, StaysOn}
-use Rattle.lab_desk_runs.specs.Runs.{Runs}
-use Rattle.lab_desk_runs.proofs.Leaving.{LeavesLiving}
+use Rattle.lab_records_keeper.specs.Worlds.{Passes}
+use Rattle.lab_desk_events.specs.Alone.{happening}
+use Rattle.lab_desk_events.specs.Keeping.{GivenWithin, StaysOn}
+use Rattle.lab_desk_events.specs.Runs.{Runs}
+use Rattle.lab_desk_events.proofs.Leaving.{LeavesLiving}
 use Rattle.lab_desk.proofs.desk.Desk.run.Given as goal
 
 -- the events so far are a run from the start, and its answers are what was written

@@ -1,6 +1,6 @@
 use Rattle.std.proofs.Common.{◌≡◌, ◌∙◌, [], Ok, Err}
 use Rattle.sqlite.specs.Held.{state}
-use Rattle.lab_records_kept.specs.Worlds.{Changes}
+use Rattle.lab_records_keeper.specs.Worlds.{Changes}
 use Rattle.lab_store_tables.specs.Ready.{tables_of}
 use Rattle.lab_store_laws.specs.Steps.{AreMadeIfAny}
 use Rattle.lab_store_load.proofs.Counting.{counted_or_none, open_or_none}

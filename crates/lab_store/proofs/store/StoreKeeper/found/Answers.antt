@@ -3,10 +3,10 @@ use Rattle.std.specs.Option.{IsSome}
 use Rattle.sqlite_trees.specs.declared.store.Store.{Ghosts}
 use Rattle.sqlite.specs.State.{State}
 use Rattle.sqlite.specs.Held.{Held, state}
-use Rattle.lab_records_kept.specs.declared.faults.PlacingFault.{PlacingFault}
-use Rattle.lab_records_kept.specs.declared.faults.PlacingFault.TheVariants.{LabExists, Storage as NotStored, Memory as NoMemory}
+use Rattle.lab_records_keeper.specs.declared.faults.PlacingFault.{PlacingFault}
+use Rattle.lab_records_keeper.specs.declared.faults.PlacingFault.TheVariants.{LabExists, Storage as NotStored, Memory as NoMemory}
 use Rattle.lab_records_kept.specs.Births.{newborn_lab}
-use Rattle.lab_records_kept.specs.Worlds.{Given, Places, PlacingFaultFits}
+use Rattle.lab_records_keeper.specs.Worlds.{Given, Places, PlacingFaultFits}
 use Rattle.lab_store_tables.specs.Meaning.{meaning}
 use Rattle.lab_store_tables.specs.Ready.{IsReady, tables_of}
 use Rattle.lab_store.specs.StoreWorlds.{world_of}

@@ -1,0 +1,14 @@
+-- What was written so far is a prefix of the reply, and nothing else reached the writer.
+use Rattle.std.proofs.Common.{length, ◌-◌, ◌≤◌, take}
+use Rattle.std.specs.Io.KnownBytes.{Appends}
+use Rattle.lab_forms_streams.proofs.sending.write_whole.Given as goal
+
+abbrev pub invariant-loop-sent : goal.invariant-loop-sent
+invariant-loop-sent g l =
+    record {
+      within : l.sent ≤ length l.bytes;
+      prefix : Appends (g.W.Write.contents l.initial.writer) (g.W.Write.contents l.writer) (take l.sent l.bytes);
+    }
+
+abbrev pub decreases-loop-sent : goal.decreases-loop-sent
+decreases-loop-sent g l = length l.bytes - l.sent

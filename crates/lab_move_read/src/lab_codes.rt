@@ -1,0 +1,41 @@
+//! The codes of all laboratories.
+
+ghost use Rattle.std.specs.Prelude.{◌≡◌, map, IfOk};
+ghost use Rattle.lab_move_tables.specs.Reading.{ReadsOld};
+ghost use Rattle.lab_move_read.specs.Laboratories.{codes_of, code_read};
+
+use lab_forms_texts::{LabCode, Series};
+use lab_move_tables::code_rows;
+use lab_store_read::cells::text_of;
+use lab_store_read::{ReadFault, Readable};
+use sqlite::Row;
+use std::alloc::Global;
+
+// The codes that rows show.
+fn codes_of_rows(alloc: Global, rows: &[Row]) -> Result<Vec<LabCode>, ReadFault>
+    ensures { IfOk result (λ made. made.items ≡ map code_read rows.now) }
+{
+    let mut made = Vec::new(alloc);
+    for row in rows {
+        made.push(text_of(alloc, row, 0)?)?;
+    }
+    Ok(made)
+}
+
+// The codes that rows show, as a list.
+fn codes_listed(alloc: Global, rows: &[Row]) -> Result<Series<LabCode>, ReadFault>
+    ensures { IfOk result (λ made. made ≡ map code_read rows.now) }
+{
+    Ok(Series::from_vec(codes_of_rows(alloc, rows)?))
+}
+
+/// The codes of all laboratories of a file of schema 2, in the order of their bytes. However it ends, the rows are as they were.
+///
+/// # Errors
+/// The store refused, a row is none that is written, or memory ran out.
+pub fn codes<D: Readable>(alloc: Global, conn: &mut D) -> Result<Series<LabCode>, ReadFault>
+    ensures { ReadsOld (λ t made. made ≡ codes_of t) (D.state conn.old) (D.state conn.new) result }
+{
+    let rows = code_rows(conn)?;
+    codes_listed(alloc, &rows)
+}

@@ -1,0 +1,88 @@
+//! The sessions of a laboratory.
+
+ghost use Rattle.std.specs.Prelude.{◌≡◌, ◌&&◌, map, IfOk};
+ghost use Rattle.lab_store_tables.specs.Meaning.{sessions_of};
+ghost use Rattle.lab_store_read_people.specs.SessionsShown.{session_read};
+ghost use Rattle.lab_move_tables.specs.KeptLabs.{are_kept_sessions};
+ghost use Rattle.lab_move_tables.specs.Reading.{ReadsOld};
+ghost use Rattle.lab_move_read_people.specs.Kept.{where_kept, are_counted};
+ghost use Rattle.lab_move_tables.specs.Checks.{are_owned};
+
+use crate::cells::{are_counted, flag_of};
+use lab_forms_texts::Series;
+use lab_move_tables::{are_owned, session_rows};
+use lab_people_access::Session;
+use lab_store_read::cells::{digest_of, moment_of, ordinal_of, text_of};
+use lab_store_read::{ReadFault, Readable};
+use sqlite::Row;
+use std::alloc::Global;
+
+// The session that a row shows.
+fn session_of_row(alloc: Global, row: &Row) -> Result<Session, ReadFault>
+    ensures { IfOk result (λ session. session ≡ session_read row.now) }
+{
+    let number = ordinal_of(row, 0)?;
+    let token = digest_of(row, 2)?;
+    let opened = moment_of(row, 3)?;
+    let last = moment_of(row, 4)?;
+    let closed = flag_of(row, 5)?;
+    let signed = flag_of(row, 6)?;
+    let person = text_of(alloc, row, 1)?;
+    Ok(Session {
+        number,
+        person,
+        token,
+        opened,
+        last,
+        closed,
+        signed,
+    })
+}
+
+// The sessions that rows show.
+fn sessions_of_rows(alloc: Global, rows: &[Row]) -> Result<Vec<Session>, ReadFault>
+    ensures { IfOk result (λ made. made.items ≡ map session_read rows.now) }
+{
+    let mut made = Vec::new(alloc);
+    for row in rows {
+        made.push(session_of_row(alloc, row)?)?;
+    }
+    Ok(made)
+}
+
+// The sessions that rows show, where they are so many, are numbered, and their persons are of the laboratory.
+fn sessions_tried(
+    alloc: Global,
+    rows: &[Row],
+    lab: i64,
+    count: u64,
+) -> Result<Option<Series<Session>>, ReadFault>
+    ensures { IfOk result (λ found. found ≡ where_kept
+        (are_counted 0 count rows.now && are_owned 7 lab rows.now) (map session_read rows.now)) }
+{
+    if !are_counted(rows, 0, count)? {
+        return Ok(None);
+    }
+    if !are_owned(rows, 7, lab)? {
+        return Ok(None);
+    }
+    Ok(Some(Series::from_vec(sessions_of_rows(alloc, rows)?)))
+}
+
+/// The sessions of the laboratory with the id, in the order of their numbers, where they are so many and well kept.
+///
+/// # Errors
+/// The store refused, a row is none that is written, or memory ran out.
+pub fn sessions_at<D: Readable>(
+    alloc: Global,
+    conn: &mut D,
+    lab: i64,
+    count: u64,
+) -> Result<Option<Series<Session>>, ReadFault>
+    ensures { ReadsOld (λ t found. found
+        ≡ where_kept (are_kept_sessions t lab count) (sessions_of t lab))
+        (D.state conn.old) (D.state conn.new) result }
+{
+    let rows = session_rows(conn, lab)?;
+    sessions_tried(alloc, &rows, lab, count)
+}

@@ -1,0 +1,18 @@
+use Rattle.std.proofs.Common.{w64, map, ap, ◌∙◌}
+use Rattle.std.proofs.lemmas.Int.{to_z-of_z}
+use Rattle.lab_store_read.proofs.Queries.{if_then}
+use Rattle.lab_move_tables.specs.Showing.{said_at}
+use Rattle.lab_move_tables.proofs.OldReaders.{may_both}
+use Rattle.lab_move_read_people.proofs.KeptLoops.{then_fails}
+use Rattle.lab_move_read_records.proofs.RecordsFound.{entries_shown_so}
+use Rattle.lab_move_read_records.proofs.entries.entries_at.Goals as goal
+
+pub returns-in_err-places : goal.returns-in_err-places
+returns-in_err-places g c = then_fails c.in_ok-rows.ensures c.entry_places.ensures c.from_residual-in_err-places.result _ c.from_residual-in_err-places.ensures.1
+
+pub returns : goal.returns
+returns g c =
+    may_both (rw (to_z-of_z w64 c.args.version c.ranges.version) at c.in_ok-rows.ensures)
+    (rw (to_z-of_z w64 c.args.version c.ranges.version) at c.in_ok-places.ensures) (λ t file rows places.
+    if_then c.entries_tried.result (λ found is. is ∙ entries_shown_so t file.lifted c.args.lab c.args.version _ _ (ap (map (said_at 5)) c.deref.ensures.value ∙ rows) (c.deref-2.ensures.value ∙ places))
+    (rw (to_z-of_z w64 c.args.lab c.ranges.lab) at c.entries_tried.ensures))

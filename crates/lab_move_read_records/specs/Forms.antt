@@ -1,0 +1,128 @@
+-- Versions of forms and their fields as they are read: each row by its id, what stands in rows of
+-- their own put together, and whether their places and numbers run from 1 on.
+use Rattle.std.specs.Prelude.{ℕ, ℤ, Bool, true, false, ◌&&◌, ◌==◌, ◌+◌, List, [], ◌∷◌, map, find, Option, Some, None, option_map, unwrap_or, bytes_eq}
+use Rattle.std.specs.Ordering.{int_eq}
+use Rattle.sqlite_value.specs.Order.{Row, column, bytes}
+use Rattle.sqlite_rules.specs.Edit.{id_in}
+use Rattle.lab_forms.specs.declared.forms.Field.{Field}
+use Rattle.lab_forms.specs.Forms.{FormSheet}
+use Rattle.lab_records_kept.specs.declared.records.FormVersion.{FormVersion}
+use Rattle.lab_store_tables.specs.Rows.{FormRow, FieldRow, Tables, number_in, flag_in}
+use Rattle.lab_store_tables.specs.Columns.{kind_in}
+use Rattle.lab_store_tables.specs.Meaning.{fields_of, names_of, form_in}
+use Rattle.lab_store_read_forms.specs.Kinds.{kind_with}
+use Rattle.lab_store_read_forms.specs.KindsShown.{kind_cells}
+use Rattle.lab_move_tables.specs.Owned.{own_forms, own_fields}
+use Rattle.lab_move_tables.specs.KeptLabs.{run, next_of, are_kept_names, are_kept_fields}
+use Rattle.lab_move_read_records.specs.declared.heads.FieldHead.{FieldHead}
+use Rattle.lab_move_read_records.specs.declared.heads.FormHead.{FormHead}
+use Rattle.lab_move_read_records.specs.declared.heads.FormAt.{FormAt}
+use Rattle.lab_move_read_people.specs.Kept.{where_kept}
+
+-- ---- fields
+
+abbrev pub field_read : Row → FieldHead
+field_read row = record {
+  id = id_in (column row 0);
+  key = bytes (column row 1);
+  label = bytes (column row 2);
+  required = flag_in (column row 3);
+  kind = kind_in (kind_cells row) [];
+}
+
+abbrev pub field_head : FieldRow → FieldHead
+field_head one = record {
+  id = one.id;
+  key = one.key;
+  label = one.label;
+  required = one.required;
+  kind = kind_in one.kind [];
+}
+
+-- with the names
+abbrev pub field_with : FieldHead → List (List ℕ) → Field
+field_with head names = record {
+  key = head.key;
+  label = head.label;
+  required = head.required;
+  kind = kind_with head.kind names;
+}
+
+-- the field that has the row, with its choices
+abbrev pub field_by : Tables → FieldHead → Field
+field_by t head = record {
+  key = head.key;
+  label = head.label;
+  required = head.required;
+  kind = kind_with head.kind (names_of t head.id);
+}
+
+abbrev pub is_kept_field_head : Tables → FieldHead → Bool
+is_kept_field_head t head = are_kept_names t head.id
+
+abbrev pub field_heads_tried : Tables → ℤ → Option (List FieldHead)
+field_heads_tried t form =
+    where_kept (run (λ (field : FieldRow). field.place) (own_fields t form))
+    (map field_head (own_fields t form))
+
+-- ---- versions of forms
+
+abbrev pub form_read : Row → FormHead
+form_read row = record {
+  id = id_in (column row 0);
+  code = bytes (column row 1);
+  version = number_in (column row 2);
+}
+
+abbrev pub form_head : FormRow → FormHead
+form_head one = record { id = one.id; code = one.code; version = one.version }
+
+abbrev pub form_heads_of : Tables → ℤ → List FormHead
+form_heads_of t lab = map form_head (own_forms t lab)
+
+-- of these fields; it wants no approval
+abbrev pub form_made : List Field → FormSheet
+form_made fields = record { fields = fields; approval = false }
+
+-- of these fields
+abbrev pub form_with : FormHead → List Field → FormAt
+form_with head fields = record {
+  id = head.id;
+  form = record { code = head.code; version = head.version; form = form_made fields };
+}
+
+abbrev pub form_at_by : Tables → FormHead → FormAt
+form_at_by t head = record {
+  id = head.id;
+  form = record {
+    code = head.code;
+    version = head.version;
+    form = form_made (fields_of t head.id);
+  };
+}
+
+abbrev pub is_kept_form_head : Tables → FormHead → Bool
+is_kept_form_head t head = are_kept_fields t head.id
+
+-- a version follows the one before, of its form or of another
+abbrev pub form_follows : FormHead → Option FormHead → Bool
+form_follows head before =
+    head.version == next_of (λ (one : FormHead). one.code) (λ (one : FormHead). one.version)
+    head.code before
+
+abbrev pub forms_run : Option FormHead → List FormHead → Bool
+forms_run before [] = true
+forms_run before (one ∷ others) = form_follows one before && forms_run (Some one) others
+
+abbrev pub form_at_in : Tables → FormRow → FormAt
+form_at_in t row = record { id = row.id; form = form_in t row }
+
+abbrev pub forms_at_of : Tables → ℤ → List FormAt
+forms_at_of t lab = map (form_at_in t) (own_forms t lab)
+
+abbrev pub form_of : FormAt → FormVersion
+form_of one = one.form
+
+-- the version whose row has the id, if it is one of these
+abbrev pub form_among : List FormAt → ℤ → Option FormVersion
+form_among forms id = option_map form_of (find (λ (one : FormAt). int_eq one.id id) forms)

@@ -1,9 +1,0 @@
-pub mod Bare
-pub mod OldReaders
-pub mod OldTexts
-pub mod PeerTexts
-pub mod OldKeys
-pub mod OldOnes
-pub mod OldExact
-pub mod Stands
-pub mod KnownShown

@@ -1,6 +1,0 @@
-use Rattle.lab_move_rows.proofs.OldReaders.{rows_read}
-use Rattle.lab_move_rows.proofs.OldTexts.{codes_means}
-use Rattle.lab_move_rows.proofs.labs.code_rows.Goals as goal
-
-pub returns : goal.returns
-returns g c = rows_read codes_means.read c.rows_by_none.ensures (λ t file rows. file.labs rows.items)

@@ -1,6 +1,0 @@
-use Rattle.lab_move_rows.proofs.OldReaders.{rows_read}
-use Rattle.lab_move_rows.proofs.OldTexts.{lab_means}
-use Rattle.lab_move_rows.proofs.labs.lab_rows.Goals as goal
-
-pub returns : goal.returns
-returns g c = rows_read lab_means.read c.rows_by_text.ensures (λ t file rows. file.lab c.args.code.now rows.items)

@@ -1,5 +1,0 @@
-use Rattle.lab_move_rows.proofs.Stands.{peer_stands}
-use Rattle.lab_move_rows.proofs.laws.a_peer_file_stands.Goals as goal
-
-pub returns : goal.returns
-returns c = peer_stands

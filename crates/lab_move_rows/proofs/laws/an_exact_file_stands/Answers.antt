@@ -1,5 +1,0 @@
-use Rattle.lab_move_rows.proofs.Stands.{exact_stands}
-use Rattle.lab_move_rows.proofs.laws.an_exact_file_stands.Goals as goal
-
-pub returns : goal.returns
-returns c = exact_stands

@@ -1,0 +1,54 @@
+//! Versions of forms of a laboratory, their fields and the names of these, each by its own row.
+
+ghost use Rattle.std.specs.Prelude.{◌≡◌};
+ghost use Rattle.lab_move_tables.specs.Reading.{ReadsOld};
+ghost use Rattle.lab_move_tables.specs.Shown.{forms_shown, fields_shown, choices_shown};
+
+use lab_store_read::asking::rows_by_one;
+use lab_store_read::{ReadFault, Readable};
+use sqlite::Row;
+
+/// The versions of all forms of the laboratory with the id, in the order of codes and numbers.
+///
+/// # Errors
+/// The store refused, or memory ran out.
+pub fn form_rows<D: Readable>(conn: &mut D, lab: i64) -> Result<Vec<Row>, ReadFault>
+    ensures { ReadsOld (λ t rows. rows.items ≡ forms_shown t lab)
+        (D.state conn.old) (D.state conn.new) result }
+{
+    rows_by_one(
+        conn,
+        "SELECT id, code, version FROM forms WHERE lab = ?1 ORDER BY code, version",
+        lab,
+    )
+}
+
+/// The fields of the version of a form with the id, in the order of their places.
+///
+/// # Errors
+/// The store refused, or memory ran out.
+pub fn field_rows<D: Readable>(conn: &mut D, form: i64) -> Result<Vec<Row>, ReadFault>
+    ensures { ReadsOld (λ t rows. rows.items ≡ fields_shown t form)
+        (D.state conn.old) (D.state conn.new) result }
+{
+    rows_by_one(
+        conn,
+        "SELECT id, key, label, required, kind, unit, decimals, low, high, size, place FROM fields WHERE form = ?1 ORDER BY place",
+        form,
+    )
+}
+
+/// The names of the field with the id, in the order of their places.
+///
+/// # Errors
+/// The store refused, or memory ran out.
+pub fn choice_rows<D: Readable>(conn: &mut D, field: i64) -> Result<Vec<Row>, ReadFault>
+    ensures { ReadsOld (λ t rows. rows.items ≡ choices_shown t field)
+        (D.state conn.old) (D.state conn.new) result }
+{
+    rows_by_one(
+        conn,
+        "SELECT name, place FROM choices WHERE field = ?1 ORDER BY place",
+        field,
+    )
+}

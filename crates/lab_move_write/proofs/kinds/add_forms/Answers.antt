@@ -1,0 +1,16 @@
+use Rattle.std.proofs.Common.{map, arith}
+use Rattle.lab_records_kept.specs.declared.changes.Change.TheVariants.{FormAdded}
+use Rattle.lab_move_write.proofs.Turns.{nothing_made, item_more, items_made, one_made, by_one}
+use Rattle.lab_move_write.proofs.kinds.add_forms.Goals as goal
+
+pub loop-form-init : goal.loop-form-init
+loop-form-init g c = nothing_made c.args.lab.id c.args.tx.now tt
+
+pub loop-form-preserved : goal.loop-form-preserved
+loop-form-preserved g c =
+    item_more c.args.lab.id (map FormAdded) (by_one FormAdded) c.args.forms.now c.loop-form.form-index c.loop-form.invariant c.form-item.result c.form-item.is
+    (omega (arith, c.loop-form-test.true)) (one_made c.args.lab.id (FormAdded c.form-item.result) c.in_ok-add_form.ensures)
+
+pub returns : goal.returns
+returns g c =
+    items_made c.args.lab.id (map FormAdded) (by_one FormAdded) c.args.forms.now c.loop-form.form-index c.loop-form.invariant (omega (arith, c.loop-form-test.false))

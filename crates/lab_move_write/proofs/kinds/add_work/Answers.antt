@@ -1,0 +1,5 @@
+use Rattle.lab_move_write.proofs.Turns.{made_then}
+use Rattle.lab_move_write.proofs.kinds.add_work.Goals as goal
+
+pub returns : goal.returns
+returns g c = made_then c.args.lab.id c.in_ok-add_records.ensures c.add_trail.ensures

@@ -1,5 +1,0 @@
-use Rattle.lab_move_writing.proofs.Turns.{made_then}
-use Rattle.lab_move_writing.proofs.kinds.add_work.Goals as goal
-
-pub returns : goal.returns
-returns g c = made_then c.args.lab.id c.in_ok-add_records.ensures c.add_trail.ensures

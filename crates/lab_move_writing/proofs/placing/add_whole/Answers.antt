@@ -1,5 +1,0 @@
-use Rattle.lab_move_writing.proofs.Whole.{writes_whole}
-use Rattle.lab_move_writing.proofs.placing.add_whole.Goals as goal
-
-pub returns : goal.returns
-returns g c = writes_whole c.args.lab.now c.in_ok-row.row c.in_ok-row.ensures.writes c.in_ok-row.ensures.rules c.add_kinds.ensures

@@ -1,8 +1,0 @@
--- each of the first is legible
-use Rattle.std.proofs.Common.{take}
-use Rattle.std.specs.Prelude.{All}
-use Rattle.lab_records_walks.specs.Legible.{IsLegibleSignature}
-use Rattle.lab_records_walks.proofs.legible.signatures_are_legible.Given as goal
-
-abbrev pub invariant-loop-signature : goal.invariant-loop-signature
-invariant-loop-signature l = All IsLegibleSignature (take l.signature-index l.signatures)

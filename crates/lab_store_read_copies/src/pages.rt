@@ -1,0 +1,376 @@
+//! The copying of a record's rows from the tables: each version is read, its rows are written, and
+//! it is dropped.
+
+ghost use Rattle.std.specs.Prelude.{◌≡◌, ◌≤◌, None, Some, [], ◌∷◌, ◌++◌, false, map, option_map, IfErr, IfOk, IfSome, IsTrue, OnOk, option_to_list};
+ghost use Rattle.sqlite.specs.State.{HasCleanDisk, IsUnchanged};
+ghost use Rattle.lab_copy_rows.specs.Outs.{Sends, counted_all};
+ghost use Rattle.lab_forms_texts.specs.Ordinals.{last_ordinal};
+ghost use Rattle.lab_records_kept.specs.Digests.{digest_of};
+ghost use Rattle.lab_store_read.specs.Causes.{HasFirst};
+ghost use Rattle.lab_store_read_copies.specs.Causes.{CopyHasItsCause, HasNumbered, HasPages, HasRange, HasVersions};
+ghost use Rattle.lab_store_read_copies.specs.Pages.{IsFormed, cover_rows, lab_at, pages_rows};
+ghost use Rattle.lab_store_read_records.specs.Leaves.{leaf_by};
+ghost use Rattle.lab_store_read_records.specs.Shown.{records_shown};
+ghost use Rattle.lab_store_read_forms.specs.Readable.{HasParts, HasWholeRecord};
+ghost use Rattle.lab_store_read_forms.specs.Wholes.{record_by};
+ghost use Rattle.lab_copy_rows.specs.Csv.{csv_text};
+ghost use Rattle.lab_store_tables.specs.Meaning.{chained, leaves_of, meaning};
+ghost use Rattle.lab_store_tables.specs.Ready.{IsReady, PassesBy, tables_of};
+ghost use Rattle.lab_records_copy_out.specs.Faults.{CopyFaultFits};
+ghost use Rattle.lab_records_copy_out.specs.Walks.{record_at, record_rows, walked_to};
+
+use crate::covers::{Cover, cover_behind, head_in};
+use crate::faults::page_fault;
+use crate::leaves::{give_cover, give_page};
+use lab_copy_rows::CopyOut;
+use lab_forms_texts::{LabCode, Ordinal, OutOfMemory};
+use lab_records_copy_out::{CopyOutFault, Progress};
+use lab_records_kept::{Record, Version};
+use lab_seal_hashes::Digest;
+use lab_store_read::Readable;
+use lab_store_read_records::{LabHead, RecordHead, VersionHead, lab_at, versions_at};
+use std::alloc::Global;
+use std::io::Write;
+
+// The digest of the version before another one, if there is one.
+fn digest_behind(
+    alloc: Global,
+    lab: &LabCode,
+    cover: &Record,
+    before: Option<Version>,
+) -> Result<Option<Digest>, OutOfMemory>
+    ensures { IfOk result
+        (λ digest. digest ≡ option_map (digest_of lab.now cover.now) before) }
+{
+    match before {
+        Some(version) => Ok(Some(cover.digest_of(alloc, lab, &version)?)),
+        None => Ok(None),
+    }
+}
+
+// Writes the rows of the versions with the rows, each after the digest of the version before it. A
+// digest is made only if another version follows, and before that version is read.
+fn give_pages<D: Readable, W: Write>(
+    alloc: Global,
+    conn: &mut D,
+    lab: &LabCode,
+    cover: &Record,
+    heads: Vec<VersionHead>,
+    out: &mut CopyOut,
+    writer: &mut W,
+) -> Result<(), CopyOutFault>
+    ensures passes { PassesBy (D.state conn.old) (D.state conn.new) }
+    ensures same { HasCleanDisk (D.state conn.new) → IsTrue (D.state conn.old).is_open →
+        OnOk result (IsUnchanged (D.state conn.old) (D.state conn.new)) }
+    ensures text { IsReady (D.state conn.old) → HasCleanDisk (D.state conn.new) →
+        IsTrue (D.state conn.old).is_open →
+        Sends (W.contents writer.old) (W.contents writer.new) (csv_text (pages_rows lab.now
+        cover.now (chained lab.now cover.now None
+        (map (leaf_by (tables_of (D.state conn.old))) heads.items)))) result }
+    ensures counts { IsReady (D.state conn.old) → HasCleanDisk (D.state conn.new) →
+        IsTrue (D.state conn.old).is_open → OnOk result (out.new ≡ record out.old {
+          counts = counted_all out.old.counts (pages_rows lab.now cover.now
+              (chained lab.now cover.now None
+              (map (leaf_by (tables_of (D.state conn.old))) heads.items)));
+        }) }
+    ensures fault { IfErr result (CopyFaultFits ⊥ (Unit {0}) (Unit {0})) }
+    ensures cause { CopyHasItsCause (λ t. HasPages t false heads.items)
+        (D.state conn.old) (D.state conn.new) result }
+{
+    let mut before = None;
+    for head in heads {
+        let digest = digest_behind(alloc, lab, cover, before)?;
+        let version = give_page(alloc, conn, lab, cover, digest, head, out, writer)?;
+        before = Some(version);
+    }
+    Ok(())
+}
+
+// Writes the rows of the versions of the record with the id.
+fn give_versions<D: Readable, W: Write>(
+    alloc: Global,
+    conn: &mut D,
+    lab: &LabCode,
+    cover: &Record,
+    kept: i64,
+    out: &mut CopyOut,
+    writer: &mut W,
+) -> Result<(), CopyOutFault>
+    ensures passes { PassesBy (D.state conn.old) (D.state conn.new) }
+    ensures same { HasCleanDisk (D.state conn.new) →
+        OnOk result (IsUnchanged (D.state conn.old) (D.state conn.new)) }
+    ensures text { IsReady (D.state conn.old) → HasCleanDisk (D.state conn.new) →
+        Sends (W.contents writer.old) (W.contents writer.new) (csv_text (pages_rows lab.now
+        cover.now (chained lab.now cover.now None
+        (leaves_of (tables_of (D.state conn.old)) kept)))) result }
+    ensures counts { IsReady (D.state conn.old) → HasCleanDisk (D.state conn.new) →
+        OnOk result (out.new ≡ record out.old {
+          counts = counted_all out.old.counts (pages_rows lab.now cover.now
+              (chained lab.now cover.now None
+              (leaves_of (tables_of (D.state conn.old)) kept)));
+        }) }
+    ensures fault { IfErr result (CopyFaultFits ⊥ (Unit {0}) (Unit {0})) }
+    ensures cause { CopyHasItsCause (λ t. HasVersions t kept)
+        (D.state conn.old) (D.state conn.new) result }
+{
+    match versions_at(alloc, conn, kept) {
+        Ok(heads) => give_pages(alloc, conn, lab, cover, heads, out, writer),
+        Err(fault) => Err(page_fault(fault)),
+    }
+}
+
+// Writes the rows of the record with the id: its own row, and the rows of its versions.
+fn give_covered<D: Readable, W: Write>(
+    alloc: Global,
+    conn: &mut D,
+    lab: &LabCode,
+    cover: &Record,
+    kept: i64,
+    out: &mut CopyOut,
+    writer: &mut W,
+) -> Result<(), CopyOutFault>
+    ensures passes { PassesBy (D.state conn.old) (D.state conn.new) }
+    ensures same { HasCleanDisk (D.state conn.new) →
+        OnOk result (IsUnchanged (D.state conn.old) (D.state conn.new)) }
+    ensures text { IsReady (D.state conn.old) → HasCleanDisk (D.state conn.new) →
+        Sends (W.contents writer.old) (W.contents writer.new)
+        (csv_text (cover_rows lab.now cover.now ++ pages_rows lab.now cover.now
+        (chained lab.now cover.now None
+        (leaves_of (tables_of (D.state conn.old)) kept)))) result }
+    ensures counts { IsReady (D.state conn.old) → HasCleanDisk (D.state conn.new) →
+        OnOk result (out.new ≡ record out.old {
+          counts = counted_all out.old.counts
+              (cover_rows lab.now cover.now ++ pages_rows lab.now cover.now
+              (chained lab.now cover.now None
+              (leaves_of (tables_of (D.state conn.old)) kept)));
+        }) }
+    ensures fault { IfErr result (CopyFaultFits ⊥ (Unit {0}) (Unit {0})) }
+    ensures cause { CopyHasItsCause (λ t. HasVersions t kept)
+        (D.state conn.old) (D.state conn.new) result }
+{
+    give_cover(alloc, lab, cover, out, writer)?;
+    give_versions(alloc, conn, lab, cover, kept, out, writer)
+}
+
+// Writes the rows of the record: its own, and those of the versions that the id leads to. Returns
+// the record without its versions, for the record after it.
+fn give_filed<D: Readable, W: Write>(
+    alloc: Global,
+    conn: &mut D,
+    lab: &LabCode,
+    cover: Cover,
+    id: i64,
+    out: &mut CopyOut,
+    writer: &mut W,
+) -> Result<Option<Cover>, CopyOutFault>
+    ensures passes { PassesBy (D.state conn.old) (D.state conn.new) }
+    ensures same { HasCleanDisk (D.state conn.new) →
+        OnOk result (IsUnchanged (D.state conn.old) (D.state conn.new)) }
+    ensures text { IsReady (D.state conn.old) → HasCleanDisk (D.state conn.new) →
+        Sends (W.contents writer.old) (W.contents writer.new)
+        (csv_text (cover_rows lab.now cover.kept ++ pages_rows lab.now cover.kept
+        (chained lab.now cover.kept None
+        (leaves_of (tables_of (D.state conn.old)) id)))) result }
+    ensures counts { IsReady (D.state conn.old) → HasCleanDisk (D.state conn.new) →
+        OnOk result (out.new ≡ record out.old {
+          counts = counted_all out.old.counts
+              (cover_rows lab.now cover.kept ++ pages_rows lab.now cover.kept
+              (chained lab.now cover.kept None
+              (leaves_of (tables_of (D.state conn.old)) id)));
+        }) }
+    ensures cover { IfOk result (λ behind. behind ≡ Some cover) }
+    ensures fault { IfErr result (CopyFaultFits ⊥ (Unit {0}) (Unit {0})) }
+    ensures cause { CopyHasItsCause (λ t. HasVersions t id)
+        (D.state conn.old) (D.state conn.new) result }
+{
+    match give_covered(alloc, conn, lab, &cover.kept, id, out, writer) {
+        Ok(()) => Ok(Some(cover)),
+        Err(fault) => Err(fault),
+    }
+}
+
+// Writes the rows of the record with the row, and returns the record without its versions. Its form
+// is read unless it is the form of the record before it.
+fn give_headed<D: Readable, W: Write>(
+    alloc: Global,
+    conn: &mut D,
+    lab: &LabCode,
+    before: Option<Cover>,
+    head: RecordHead,
+    out: &mut CopyOut,
+    writer: &mut W,
+) -> Result<Option<Cover>, CopyOutFault>
+    ensures passes { PassesBy (D.state conn.old) (D.state conn.new) }
+    ensures same { HasCleanDisk (D.state conn.new) →
+        OnOk result (IsUnchanged (D.state conn.old) (D.state conn.new)) }
+    ensures text { IsReady (D.state conn.old) → HasCleanDisk (D.state conn.new) →
+        IfSome before (IsFormed (tables_of (D.state conn.old))) →
+        Sends (W.contents writer.old) (W.contents writer.new) (csv_text (record_rows lab.now
+        (record_by (tables_of (D.state conn.old)) lab.now head ∷ []))) result }
+    ensures counts { IsReady (D.state conn.old) → HasCleanDisk (D.state conn.new) →
+        IfSome before (IsFormed (tables_of (D.state conn.old))) →
+        OnOk result (out.new ≡ record out.old {
+          counts = counted_all out.old.counts (record_rows lab.now
+              (record_by (tables_of (D.state conn.old)) lab.now head ∷ []));
+        }) }
+    ensures formed { IsReady (D.state conn.old) → HasCleanDisk (D.state conn.new) →
+        IfSome before (IsFormed (tables_of (D.state conn.old))) →
+        IfOk result (λ behind. IfSome behind (IsFormed (tables_of (D.state conn.old)))) }
+    ensures fault { IfErr result (CopyFaultFits ⊥ (Unit {0}) (Unit {0})) }
+    ensures cause { CopyHasItsCause (λ t. HasParts t head)
+        (D.state conn.old) (D.state conn.new) result }
+{
+    let id = head.id;
+    match cover_behind(alloc, conn, before, head) {
+        Ok(cover) => give_filed(alloc, conn, lab, cover, id, out, writer),
+        Err(fault) => Err(page_fault(fault)),
+    }
+}
+
+// Writes the rows of the record with the number, if the laboratory with the row has one. Returns
+// the last record without its versions, for the record after it.
+fn give_record_at<D: Readable, W: Write>(
+    alloc: Global,
+    conn: &mut D,
+    lab: &LabCode,
+    found: &LabHead,
+    before: Option<Cover>,
+    number: Ordinal,
+    out: &mut CopyOut,
+    writer: &mut W,
+) -> Result<Option<Cover>, CopyOutFault>
+    ensures passes { PassesBy (D.state conn.old) (D.state conn.new) }
+    ensures same { HasCleanDisk (D.state conn.new) →
+        OnOk result (IsUnchanged (D.state conn.old) (D.state conn.new)) }
+    ensures text { IsReady (D.state conn.old) → HasCleanDisk (D.state conn.new) →
+        Some found.now ≡ lab_at (tables_of (D.state conn.old)) lab.now →
+        IfSome before (IsFormed (tables_of (D.state conn.old))) →
+        Sends (W.contents writer.old) (W.contents writer.new) (csv_text (record_rows lab.now
+        (option_to_list (record_at number (meaning (tables_of (D.state conn.old)) lab.now)))))
+        result }
+    ensures counts { IsReady (D.state conn.old) → HasCleanDisk (D.state conn.new) →
+        Some found.now ≡ lab_at (tables_of (D.state conn.old)) lab.now →
+        IfSome before (IsFormed (tables_of (D.state conn.old))) →
+        OnOk result (out.new ≡ record out.old {
+          counts = counted_all out.old.counts (record_rows lab.now (option_to_list
+              (record_at number (meaning (tables_of (D.state conn.old)) lab.now))));
+        }) }
+    ensures formed { IsReady (D.state conn.old) → HasCleanDisk (D.state conn.new) →
+        IfSome before (IsFormed (tables_of (D.state conn.old))) →
+        IfOk result (λ behind. IfSome behind (IsFormed (tables_of (D.state conn.old)))) }
+    ensures fault { IfErr result (CopyFaultFits ⊥ (Unit {0}) (Unit {0})) }
+    ensures cause { CopyHasItsCause
+        (λ t. HasFirst (HasWholeRecord t) (records_shown t found.now.id number))
+        (D.state conn.old) (D.state conn.new) result }
+{
+    match head_in(alloc, conn, found, number) {
+        Ok(Some(head)) => give_headed(alloc, conn, lab, before, head, out, writer),
+        Ok(None) => Ok(before),
+        Err(fault) => Err(page_fault(fault)),
+    }
+}
+
+// The number of a record.
+fn ordinal(number: u32) -> Ordinal
+    requires first { 1 ≤ number }
+    requires last { number ≤ last_ordinal }
+    ensures { result ≡ number }
+{
+    match Ordinal::new(number) {
+        Some(number) => number,
+        None => Ordinal::FIRST,
+    }
+}
+
+// Writes the rows of the records from a number to a last one, of the laboratory with the row.
+fn give_all<D: Readable, W: Write, P: Progress>(
+    alloc: Global,
+    conn: &mut D,
+    lab: &LabCode,
+    found: LabHead,
+    from: Ordinal,
+    last: u32,
+    out: &mut CopyOut,
+    writer: &mut W,
+    progress: &mut P,
+) -> Result<(), CopyOutFault>
+    requires { last ≤ last_ordinal }
+    ensures passes { PassesBy (D.state conn.old) (D.state conn.new) }
+    ensures same { HasCleanDisk (D.state conn.new) → IsTrue (D.state conn.old).is_open →
+        OnOk result (IsUnchanged (D.state conn.old) (D.state conn.new)) }
+    ensures text { IsReady (D.state conn.old) → HasCleanDisk (D.state conn.new) →
+        IsTrue (D.state conn.old).is_open →
+        Some found ≡ lab_at (tables_of (D.state conn.old)) lab.now →
+        Sends (W.contents writer.old) (W.contents writer.new) (csv_text (record_rows lab.now
+        (walked_to (meaning (tables_of (D.state conn.old)) lab.now) from last))) result }
+    ensures counts { IsReady (D.state conn.old) → HasCleanDisk (D.state conn.new) →
+        IsTrue (D.state conn.old).is_open →
+        Some found ≡ lab_at (tables_of (D.state conn.old)) lab.now →
+        OnOk result (out.new ≡ record out.old {
+          counts = counted_all out.old.counts (record_rows lab.now
+              (walked_to (meaning (tables_of (D.state conn.old)) lab.now) from last));
+        }) }
+    ensures fault { IfErr result (CopyFaultFits ⊥ (Unit {0}) (Unit {0})) }
+    ensures cause { CopyHasItsCause (λ t. HasNumbered t found.id from last)
+        (D.state conn.old) (D.state conn.new) result }
+{
+    let first = from.get();
+    let end = last + 1;
+    let mut before = None;
+    for number in first..end {
+        let behind = give_record_at(
+            alloc,
+            conn,
+            lab,
+            &found,
+            before,
+            ordinal(number),
+            out,
+            writer,
+        )?;
+        before = behind;
+        progress.tell_records(number - first + 1, end - first);
+    }
+    Ok(())
+}
+
+/// Writes the rows of the records from a number to a last one, if a laboratory has the code. The
+/// laboratory's row is read once, and the form of a record unless it is the form of the record
+/// before. Each version is read, and its rows are written, before the next is read. The progress is
+/// reported after each number.
+///
+/// # Errors
+/// The store failed, memory ran out, or a write failed or took no byte. The front of the rows' text
+/// was written, and the tables are unchanged.
+pub fn give_records_at<D: Readable, W: Write, P: Progress>(
+    alloc: Global,
+    conn: &mut D,
+    lab: &LabCode,
+    from: Ordinal,
+    last: u32,
+    out: &mut CopyOut,
+    writer: &mut W,
+    progress: &mut P,
+) -> Result<(), CopyOutFault>
+    requires { last ≤ last_ordinal }
+    ensures passes { PassesBy (D.state conn.old) (D.state conn.new) }
+    ensures same { HasCleanDisk (D.state conn.new) →
+        OnOk result (IsUnchanged (D.state conn.old) (D.state conn.new)) }
+    ensures text { IsReady (D.state conn.old) → HasCleanDisk (D.state conn.new) →
+        Sends (W.contents writer.old) (W.contents writer.new) (csv_text (record_rows lab.now
+        (walked_to (meaning (tables_of (D.state conn.old)) lab.now) from last))) result }
+    ensures counts { IsReady (D.state conn.old) → HasCleanDisk (D.state conn.new) →
+        OnOk result (out.new ≡ record out.old {
+          counts = counted_all out.old.counts (record_rows lab.now
+              (walked_to (meaning (tables_of (D.state conn.old)) lab.now) from last));
+        }) }
+    ensures fault { IfErr result (CopyFaultFits ⊥ (Unit {0}) (Unit {0})) }
+    ensures cause { CopyHasItsCause (λ t. HasRange t lab.now from last)
+        (D.state conn.old) (D.state conn.new) result }
+{
+    match lab_at(alloc, conn, lab) {
+        Ok(Some(found)) => give_all(alloc, conn, lab, found, from, last, out, writer, progress),
+        Ok(None) => Ok(()),
+        Err(fault) => Err(page_fault(fault)),
+    }
+}
