@@ -18,7 +18,8 @@ use Rattle.lab_copy_rows.specs.declared.lines.Line.{Line}
 use Rattle.lab_copy_rows.proofs.ListLemmas.{never}
 use Rattle.lab_copy.specs.Checks.{most_rows, rows_of}
 use Rattle.lab_copy.specs.Faults.{IsAnswer}
-use Rattle.lab_copy.specs.Fronts.{SoFar, after, done_by, front, front_of, is_too_long, mark_after, most_bytes, most_fields, row_begun, stepped, text_begun}
+use Rattle.lab_copy.specs.Fronts.{SoFar, after, done_by, front, is_too_long, mark_after, most_bytes, most_fields, row_begun, stepped, text_begun}
+use Rattle.lab_copy.proofs.FrontWords.{front_of}
 use Rattle.lab_copy.specs.Left.{IsEnough}
 use Rattle.lab_copy.specs.declared.faults.CheckFault.{CheckFault}
 use Rattle.lab_copy.proofs.LongLemmas.{HasLong, IsLong, no_header, no_line}

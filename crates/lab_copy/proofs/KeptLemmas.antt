@@ -26,7 +26,8 @@ use Rattle.lab_copy_lines.specs.Fields.{HasReasonUnlessFirst}
 use Rattle.lab_copy_lines.specs.Lines.{IsReasoned}
 use Rattle.lab_copy.specs.Current.{hand_of, amendment_by, amendment_behind, begun, with_entry, with_signature, has_numbers, flaw_of_current}
 use Rattle.lab_copy_lines.specs.Kinds.{kind_of, may_come_after, is_end_kind}
-use Rattle.lab_copy.specs.Kept.{is_version_behind, has_kept_numbers, may_come, is_in_place_by, is_in_place_kept, flaw_of_signature_kept, flaw_of_version_kept, flaw_kept, hand_begun, copy_with, about_with, version_with, kept_with, verdict_kept, edition_by, first_copy, ends_in_version, hand_at, kept_none, kept_of, BeginsWithCopy, HasVersion, IsAt, IsKeepFault, IsTaken, MayBegin, MayRunOut, is_kept_made, is_text_made}
+use Rattle.lab_copy.specs.Kept.{is_version_behind, has_kept_numbers, may_come, is_in_place_by, is_in_place_kept, flaw_of_signature_kept, flaw_of_version_kept, flaw_kept, copy_with, about_with, version_with, kept_with, verdict_kept, edition_by, first_copy, ends_in_version, hand_at, kept_none, kept_of, BeginsWithCopy, HasVersion, IsAt, IsKeepFault, IsTaken, MayBegin, MayRunOut, is_kept_made, is_text_made}
+use Rattle.lab_copy.proofs.KeptWords.{current_begun}
 use Rattle.lab_copy.specs.declared.faults.CheckFault.{CheckFault}
 use Rattle.lab_copy.specs.declared.faults.CheckFault.TheVariants.{Flawed, Read, Memory}
 use Rattle.lab_copy.specs.declared.current.CurrentVersion.{CurrentVersion}
@@ -528,7 +529,7 @@ module _ (lines : List Line) (has : HasVersion lines) where
       told_here lines line ∙ ap (λ about. told_by about (Some line) (last_version lines) [] []) (about_there line behind).1
 
   version_hand_next : (line : VersionLine) → Follows lines (Version line) → HasReasonUnlessFirst line.number line.reason
-      → hand_begun (length lines + 2) (kept_of lines) line ≡ hand_at (lines ++ (Version line ∷ []))
+      → current_begun (length lines + 2) (kept_of lines) line ≡ hand_at (lines ++ (Version line ∷ []))
   version_hand_next line behind reasoned =
       let about = about_there line behind in
       ap (option_map (λ one. begun (length lines + 2) one (hand_at lines) line)) about.1

@@ -1,3 +1,6 @@
+pub mod FrontWords
+pub mod KeptWords
+pub mod LeftWords
 pub mod CheckLemmas
 pub mod FrontLemmas
 pub mod KeptLemmas

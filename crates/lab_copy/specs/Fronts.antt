@@ -65,10 +65,6 @@ unfoldable pub front : SoFar → List ℕ → List ℕ
 front row [] = []
 front row (byte ∷ bytes) = if is_too_long row then [] else byte ∷ front (after row byte) bytes
 
--- how much is read of a copy
-abbrev pub front_of : List ℕ → List ℕ
-front_of bytes = front text_begun bytes
-
 -- what the code keeps of a row so far
 abbrev pub state_at : Inside → State
 state_at inside.RowStart = st.StartRecord

@@ -78,9 +78,6 @@ flaw_kept row kept line = flaw_of_version_kept kept
 
 -- ---- what is kept after a line
 
-abbrev pub hand_begun : ℕ → Kept → VersionLine → Option CurrentVersion
-hand_begun row kept line = option_map (λ about. begun row about kept.version line) kept.about
-
 -- a version that begins amends the one being read, unless it is the first
 abbrev pub MayBegin : Option CurrentVersion → Line → Type 0
 MayBegin version (Version line) = AmendsUnlessFirst line.number (amendment_behind version line)

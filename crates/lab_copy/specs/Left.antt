@@ -43,9 +43,3 @@ AreRows total row state source =
 abbrev pub AnswersRest : State → Option (List ℕ) → Result Counts CheckFault → Type 0
 AnswersRest state source result =
     (found : Result Counts Flaw) → IsLeftOf found kept_none 2 state source → IsAnswer found result
-
--- the loop's invariant: to check from this row on gives the verdict on the whole copy
-abbrev pub LeavesAt : State → Option (List ℕ) → Kept → ℕ → State → Option (List ℕ) → Type 0
-LeavesAt state source kept row later rest =
-    (found : Result Counts Flaw) → IsLeftOf found kept_none 2 state source
-    → IsLeftOf found kept row later rest

@@ -1,3 +1,4 @@
+pub mod AnsweringWords
 pub mod Agreeing
 pub mod HandlingLemmas
 pub mod Happenings

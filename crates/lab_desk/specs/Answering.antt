@@ -21,7 +21,3 @@ pub record Answers {S : Type 0} (keeper : Ghosts S) (old new : S)
   pub stays : GivenWithin (keeper.world old) (keeper.world new)
       (Stays (keeper.world old) (keeper.world new))
   pub passes : Passes (keeper.world old) (keeper.world new)
-
--- a keeper is as another that was asked so, whatever it answered
-abbrev pub IsAsked : {S : Type 0} → Ghosts S → S → S → Type 0
-IsAsked keeper old new = (result : Result (Unit {0}) (Fault BadStore)) × Answers keeper old new result

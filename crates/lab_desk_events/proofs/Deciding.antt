@@ -23,7 +23,8 @@ use Rattle.lab_records_laws.proofs.Passing.{decided_is}
 use Rattle.lab_wire.specs.declared.replies.Answer.TheVariants.{Replied}
 use Rattle.lab_wire.specs.Replies.{reply_text}
 use Rattle.lab_desk_events.specs.Calls.{Ends, Loads}
-use Rattle.lab_desk_events.specs.Requests.{changes_for, is_none, is_idle, Builds}
+use Rattle.lab_desk_events.specs.Requests.{changes_for, is_none, is_idle}
+use Rattle.lab_desk_events.proofs.RequestWords.{Builds}
 use Rattle.lab_desk_events.proofs.Lasting.{shuts_on}
 
 -- a change is none where there is no change

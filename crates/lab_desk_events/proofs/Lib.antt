@@ -1,3 +1,5 @@
+pub mod RequestWords
+pub mod LeavingWords
 pub mod Staying
 pub mod Keeping
 pub mod Retaining

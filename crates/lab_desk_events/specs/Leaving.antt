@@ -46,11 +46,6 @@ abbrev pub Settles : World → World → Type 0
 Settles old new =
     IsDurable new ⊎ (Quiet old new × (old.is_live → SameMeaning old.meaning new.meaning))
 
--- each event was taken; and each but the last
-abbrev pub AreTaken : List Bool → Type 0
-AreTaken [] = Unit {0}
-AreTaken (one ∷ others) = (one ≡ true) × AreTaken others
-
 abbrev pub AreTakenButLast : List Bool → Type 0
 AreTakenButLast [] = Unit {0}
 AreTakenButLast (one ∷ []) = Unit {0}

@@ -1,5 +1,5 @@
 -- What the desk does of a request: its reply, and what every laboratory is afterwards.
-use Rattle.std.specs.Prelude.{◌≡◌, ◌⊎◌, ◌↔◌, Bool, true, false, ℕ, List, [], ◌∷◌, Option, Some, None, Result, Ok, Err, IsOk, IsTrue, IsFalse, OnOk}
+use Rattle.std.specs.Prelude.{◌≡◌, ◌⊎◌, Bool, true, false, ℕ, List, [], ◌∷◌, Option, Some, None, Result, Ok, Err, IsOk, IsFalse, OnOk}
 use Rattle.lab_forms_texts.specs.declared.tick.Tick.{Tick}
 use Rattle.lab_records_kept.specs.declared.changes.Change.{Change}
 use Rattle.lab_records_kept.specs.declared.labs.Lab.{Lab}
@@ -7,14 +7,12 @@ use Rattle.lab_forms_texts.specs.declared.refusals.Fault.{Fault}
 use Rattle.lab_records_keeper.specs.declared.faults.BadStore.{BadStore}
 use Rattle.lab_forms_texts.specs.declared.refusals.Fault.TheVariants.{Refused as StoreRefused, Memory}
 use Rattle.lab_records_kept.specs.Changes.{ChangesFit, changed_in}
-use Rattle.lab_records_kept.specs.Limits.{IsWithin}
 use Rattle.lab_records_kept.specs.Parts.{part}
 use Rattle.lab_records_keeper.specs.Worlds.{World, Meaning, CommitsAs, IsDurable, SameMeaning, SetsOne, StaysSafe, Lives, Leaves}
 use Rattle.lab_records_machine.specs.declared.commands.Instruction.{Instruction}
 use Rattle.lab_records_machine.specs.Machine.{step}
 use Rattle.lab_records_machine.specs.Needs.{need_of}
 use Rattle.lab_records_outcomes.specs.Deciding.{decided}
-use Rattle.lab_records_laws.specs.Stepping.{WhereThere}
 use Rattle.lab_wire.specs.declared.commands.Asked.{Asked}
 use Rattle.lab_wire.specs.declared.refusals.RequestRefusal.{RequestRefusal}
 use Rattle.lab_wire.specs.declared.replies.Answer.{Answer}
@@ -54,15 +52,6 @@ abbrev pub Steps : Tick → Asks → Meaning → Meaning → Type 0
 Steps tick (Err refusal) old new = SameMeaning old new
 Steps tick (Ok asked) old new =
     SetsOne asked.lab (step (old asked.lab) tick asked.instruction).after old new
-
--- a reply that is built, and changes, make the step of a laboratory: the changes fit it, where it
--- is within its limits, and there are none where the step writes nothing, and there alone
-pub record Builds (lab : Option Lab) (tick : Tick) (instruction : Instruction) (reply : List ℕ)
-    (changes : List Change) : Type 0 where
-  pub replied : reply ≡ reply_text tick (Replied (step lab tick instruction).reply)
-  pub fit : WhereThere IsWithin lab → ChangesFit lab changes
-  pub after : changed_in lab changes ≡ (step lab tick instruction).after
-  pub idle : IsTrue (is_idle lab tick instruction) ↔ (changes ≡ [])
 
 -- the rows moved by changes that fit the laboratory and make its step
 pub record MovesBy (meaning : Meaning) (tick : Tick) (asked : Asked)

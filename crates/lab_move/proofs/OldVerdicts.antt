@@ -20,7 +20,8 @@ use Rattle.sqlite.specs.State.{State, Shown}
 use Rattle.lab_forms_texts.specs.declared.refusals.Fault.{Fault}
 use Rattle.lab_forms_texts.specs.declared.refusals.Fault.TheVariants as reading
 use Rattle.lab_records_keeper.specs.declared.faults.BadStore.{BadStore}
-use Rattle.lab_store_tables.specs.Rows.{DeskRow, Tables, desk_row, desk_id, number}
+use Rattle.lab_store_tables.specs.Rows.{DeskRow, Tables, desk_id, number}
+use Rattle.lab_store_tables.proofs.RowWords.{desk_row}
 use Rattle.lab_store_tables.specs.Family.{Desk as DeskRows}
 use Rattle.lab_store_tables.specs.Held.{AreRising}
 use Rattle.lab_store_read.proofs.Queries.{IsRead}

@@ -19,7 +19,8 @@ use Rattle.sqlite.specs.Does.{Tally, Does, lacks_sequence}
 use Rattle.sqlite.specs.State.{State, HasCleanDisk, mode_of, Writes, Executes, ExecutesInside}
 use Rattle.sqlite.proofs.Callers.{runs_as}
 use Rattle.lab_store_tables.specs.Family.{empty_tables}
-use Rattle.lab_store_tables.specs.Schema.{sessions, sessions_of_person, sessions_of_person_text, lab_schema}
+use Rattle.lab_store_tables.specs.Schema.{sessions, sessions_of_person, lab_schema}
+use Rattle.lab_store_tables.proofs.SchemaWords.{sessions_of_person_text}
 use Rattle.lab_store_tables.specs.Rows.{Tables}
 use Rattle.lab_store_tables.specs.Meaning.{meaning}
 use Rattle.lab_store_tables.specs.WellKept.{AreWellKept}

@@ -14,7 +14,8 @@ use Rattle.sqlite.specs.Listing.{understood}
 use Rattle.sqlite.specs.State.{State, Executes, ExecutesInside}
 use Rattle.sqlite.proofs.Callers.{IsPlain, command_of}
 use Rattle.lab_store_tables.specs.Schema.{lab_schema, desk}
-use Rattle.lab_store_tables.specs.Rows.{DeskRow, Tables, desk_row, desk_id, tables_in, number}
+use Rattle.lab_store_tables.specs.Rows.{DeskRow, Tables, desk_id, tables_in, number}
+use Rattle.lab_store_tables.proofs.RowWords.{desk_row}
 use Rattle.lab_store_tables.specs.Held.{IsTyped}
 use Rattle.lab_store_tables.specs.Meaning.{meaning}
 use Rattle.lab_store_tables.specs.WellKept.{is_desk, AreWellKept, IsWellKept}

@@ -8,7 +8,8 @@ use Rattle.sqlite.specs.Listing.{understood}
 use Rattle.sqlite.specs.State.{State, Shown}
 use Rattle.sqlite.proofs.Callers.{reads_as}
 use Rattle.lab_store_tables.specs.Schema.{lab_schema}
-use Rattle.lab_store_tables.specs.Rows.{DeskRow, desk_row, desk_id, number}
+use Rattle.lab_store_tables.specs.Rows.{DeskRow, desk_id, number}
+use Rattle.lab_store_tables.proofs.RowWords.{desk_row}
 use Rattle.lab_store_tables.specs.Held.{IsTyped}
 use Rattle.lab_store_tables.specs.Ready.{tables_of}
 use Rattle.lab_store_tables.specs.Family.{Desk}

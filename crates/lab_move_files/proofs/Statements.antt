@@ -13,7 +13,8 @@ use Rattle.sqlite_tied.specs.Compute.{everything}
 use Rattle.sqlite.specs.Does.{lacks_sequence}
 use Rattle.sqlite.specs.Listing.{understood, reads_listing, listing_schema}
 use Rattle.sqlite.proofs.Callers.{IsPlain, command_of, statement_of}
-use Rattle.lab_store_tables.specs.Schema.{sessions, sessions_of_person, sessions_of_person_text, lab_schema}
+use Rattle.lab_store_tables.specs.Schema.{sessions, sessions_of_person, lab_schema}
+use Rattle.lab_store_tables.proofs.SchemaWords.{sessions_of_person_text}
 use Rattle.lab_store_tables.proofs.SchemaValues.{desk_is, labs_is, persons_is, sessions_is, forms_is, fields_is, choices_is, records_is, versions_is, entries_is, signatures_is, trail_is, sessions_of_person_is, schema_is}
 use Rattle.lab_store_files.specs.NewFiles.{no_schema}
 use Rattle.lab_store_files.specs.Verdicts.{number_query}

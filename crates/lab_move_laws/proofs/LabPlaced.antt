@@ -16,7 +16,8 @@ use Rattle.lab_store_tables.specs.Held.{AreRising}
 use Rattle.lab_store_tables.specs.Changes.{InTurn, AddsPerson, SetsPerson, AddsSession, AddsForm, AddsRecord, AddsTold}
 use Rattle.lab_store_tables.specs.Placing.{lab_row_of, put_lab, unasked, is_asked_for, PlacesLab}
 use Rattle.lab_store_laws.specs.Steps.{StepsBy}
-use Rattle.lab_move_laws.specs.Placings.{emptied, whole_changes, PlacesByRules}
+use Rattle.lab_move_laws.specs.Placings.{whole_changes, PlacesByRules}
+use Rattle.lab_move_laws.proofs.PlacingWords.{emptied}
 use Rattle.lab_move_laws.proofs.Comings.{come_in_turn}
 use Rattle.lab_move_laws.proofs.OwnRow.{absent_by_rules, nothing_there, row_found, others_stay, row_kept, still_rising}
 use Rattle.lab_move_laws.proofs.WholeLab.{whole_comes}

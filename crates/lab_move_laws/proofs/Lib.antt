@@ -1,3 +1,4 @@
+pub mod PlacingWords
 pub mod Wholes
 pub mod SignaturesInTurn
 pub mod VersionWhole

@@ -25,7 +25,7 @@ use Rattle.lab_store_laws.proofs.LabLaws.{text_is}
 use Rattle.lab_store_laws.proofs.Named.{text_alike}
 use Rattle.lab_store_laws.proofs.Parts.{AreLed, arrows_led}
 use Rattle.lab_store_laws.proofs.PutLaws.{none_led, find_other, find_alone, apart_back}
-use Rattle.lab_move_laws.specs.Placings.{emptied}
+use Rattle.lab_move_laws.proofs.PlacingWords.{emptied}
 
 -- ---- its code was nobody's
 

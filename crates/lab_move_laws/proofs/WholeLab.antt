@@ -20,7 +20,8 @@ use Rattle.lab_records_kept.specs.Changes.{change, changed}
 use Rattle.lab_records_kept.specs.Dual.{IsSignedDually, IsDualRecord, IsDual}
 use Rattle.lab_records_kept.specs.Limits.{AreNumberedAfter, AreFormsNumbered, IsOrderly, IsByForm, IsWithin}
 use Rattle.lab_store_tables.specs.Placing.{unasked, is_asked_for}
-use Rattle.lab_move_laws.specs.Placings.{emptied, whole_changes}
+use Rattle.lab_move_laws.specs.Placings.{whole_changes}
+use Rattle.lab_move_laws.proofs.PlacingWords.{emptied}
 use Rattle.lab_move_laws.proofs.Wholes.{SaysAsForm, IsWholeRecord}
 use Rattle.lab_move_laws.proofs.Comings.{Comes, AllCome}
 use Rattle.lab_move_laws.proofs.Orders.{AreBehind, behind_none, behind_one, Earlier, persons_ascend, person_last, nobody_yet, set_in_place, NotLater, forms_ascend, form_last}

@@ -2,7 +2,7 @@
 -- 7.5.2, "amendments to technical records can be tracked to previous versions", wherever they are
 -- kept). First comes its row, and then all that it has, kind by kind, as changes of a laboratory
 -- that has nothing yet; each leaves tables in which ids rise and those rules hold.
-use Rattle.std.specs.Prelude.{ℤ, List, [], ◌++◌, map, filter}
+use Rattle.std.specs.Prelude.{ℤ, List, ◌++◌, map, filter}
 use Rattle.lab_records_kept.specs.declared.labs.Lab.{Lab}
 use Rattle.lab_records_kept.specs.declared.changes.Change.{Change}
 use Rattle.lab_records_kept.specs.declared.changes.Change.TheVariants.{PersonAdded, PersonSet, SessionAdded, FormAdded, RecordAdded, TrailAdded}
@@ -11,10 +11,6 @@ use Rattle.lab_store_tables.specs.Changes.{IsFree, InTurn}
 use Rattle.lab_store_tables.specs.Placing.{lab_row_of, put_lab, unasked, is_asked_for}
 use Rattle.lab_store_laws.specs.ByRules.{IsByRules}
 use Rattle.lab_store_laws.specs.Steps.{StepsBy}
-
--- the laboratory before it has anything
-abbrev pub emptied : Lab → Lab
-emptied lab = record lab { persons = []; sessions = []; forms = []; records = []; trail = [] }
 
 -- all that it has; what was asked for a person comes once all persons are there
 abbrev pub whole_changes : Lab → List Change

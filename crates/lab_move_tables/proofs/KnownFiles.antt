@@ -1,7 +1,8 @@
 -- Small files of schema 2 in both styles, each as a whole: a value from outside of each, so that neither premise is empty.
 use Rattle.std.proofs.Common.{◌≡◌, true, map, refl}
 use Rattle.sqlite.specs.Effect.{Database}
-use Rattle.lab_store_tables.specs.Family.{Name, Desk, id_of, rows, row_by, trees_by}
+use Rattle.lab_store_tables.specs.Family.{Name, Desk, id_of, rows, row_by}
+use Rattle.lab_store_tables.proofs.FamilyWords.{trees_by}
 use Rattle.lab_store_tables.proofs.Tests.{are_rising, keyed_from_test}
 use Rattle.lab_move_tables.specs.OldSheets.{before}
 use Rattle.lab_move_tables.specs.OldSchema.{old_schema}

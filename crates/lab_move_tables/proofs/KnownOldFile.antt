@@ -5,7 +5,7 @@ use Rattle.std.specs.Prelude.{codes}
 use Rattle.sqlite_value.specs.Order.{Row}
 use Rattle.sqlite_value.specs.declared.value.Value.TheVariants.{Null, Int, Text}
 use Rattle.lab_store_tables.specs.Rows.{FormRow, VersionRow, LabRow, Tables}
-use Rattle.lab_store_tables.specs.Family.{trees_by}
+use Rattle.lab_store_tables.proofs.FamilyWords.{trees_by}
 use Rattle.lab_store_tables.proofs.KnownFile.{file, desk, lab, session, entry, told, filled}
 use Rattle.lab_move_tables.specs.OldSheets.{before}
 use Rattle.lab_move_tables.specs.OldRows.{old_tables, reason_in}

@@ -1,3 +1,5 @@
+pub mod OldSchemaWords
+pub mod OldRowWords
 pub mod OldSchemaValues
 pub mod KnownOldFile
 pub mod PeerValues

@@ -27,7 +27,8 @@ use Rattle.sqlite_schema.specs.declared.command.Command.TheVariants.{Select}
 use Rattle.sqlite.specs.Effect.{Database, Reads}
 use Rattle.sqlite.specs.Listing.{understood, reads_listing, IsSourceOf}
 use Rattle.sqlite.proofs.Callers.{IsPlain, command_of}
-use Rattle.lab_store_tables.specs.Rows.{LabRow, PersonRow, FormRow, FieldRow, ChoiceRow, RecordRow, VersionRow, EntryRow, SignatureRow, TrailRow, lab_row, session_row, field_row, choice_row, record_row, trail_row, lab_id, person_id, session_id, form_id, field_id, choice_id, record_id, version_id, entry_id, signature_id, trail_id, number, flag, optional}
+use Rattle.lab_store_tables.specs.Rows.{LabRow, PersonRow, FormRow, FieldRow, ChoiceRow, RecordRow, VersionRow, EntryRow, SignatureRow, TrailRow, lab_id, person_id, session_id, form_id, field_id, choice_id, record_id, version_id, entry_id, signature_id, trail_id, number, flag, optional}
+use Rattle.lab_store_tables.proofs.RowWords.{lab_row, session_row, field_row, choice_row, record_row, trail_row}
 use Rattle.lab_store_tables.specs.Meaning.{has_code, by_form, code_of}
 use Rattle.lab_store_tables.specs.WellKept.{same_lab}
 use Rattle.lab_store_tables.specs.Family.{Labs, Persons, Sessions, Forms, Fields, Choices, Records, Versions, Entries, Signatures, Trail}
@@ -36,7 +37,8 @@ use Rattle.lab_store_read.proofs.Sorted.{equal_ints, equal_texts, and_true, by_o
 use Rattle.lab_store_read.proofs.Lists.{alone_text, at_id, untied_in, untied_texts, joined}
 use Rattle.lab_store_tables.specs.Held.{AreRising}
 use Rattle.lab_store_laws.specs.ByRules.{IsByRules}
-use Rattle.lab_move_tables.specs.OldRows.{old_tables, old_person_row, old_form_row, reason_in}
+use Rattle.lab_move_tables.specs.OldRows.{old_tables, reason_in}
+use Rattle.lab_move_tables.proofs.OldRowWords.{old_person_row, old_form_row}
 use Rattle.lab_move_tables.specs.Owned.{own_versions, own_entries, own_signatures, lab_of}
 use Rattle.lab_move_tables.specs.Questions.{codes_text, lab_text, person_text, owner_text, session_text, form_text, field_text, choice_text, filed_text, version_text, entry_text, entry_place_text, signature_text, signature_place_text, told_text}
 use Rattle.lab_move_tables.specs.Showing.{said, said_at, ShowsOf, Shows, ShowsSaid}

@@ -9,7 +9,8 @@ use Rattle.sqlite_keyed.proofs.ListLemmas.{all_map, all_of, all-filter}
 use Rattle.lab_store_laws.proofs.SortLaws.{all_sorted}
 use Rattle.lab_store_tables.specs.Rows.{PersonRow, FormRow, VersionRow, EntryRow, SignatureRow, Tables, optional}
 use Rattle.lab_store_tables.specs.Meaning.{by_code, by_form, by_version, by_entry, by_signature}
-use Rattle.lab_move_tables.specs.OldRows.{old_tables, old_person_from, old_form_from, old_version_from, old_entry_from, old_signature_from, old_rounds, beside, reason_in}
+use Rattle.lab_move_tables.specs.OldRows.{old_tables, old_rounds, beside, reason_in}
+use Rattle.lab_move_tables.proofs.OldRowWords.{old_person_from, old_form_from, old_version_from, old_entry_from, old_signature_from}
 use Rattle.lab_move_tables.specs.Standing.{AreLifted}
 use Rattle.lab_move_tables.specs.Owned.{own_persons, own_forms, own_versions, own_entries, own_signatures}
 

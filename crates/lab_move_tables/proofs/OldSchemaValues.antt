@@ -6,10 +6,11 @@ use Rattle.sqlite_schema.specs.declared.schema.Schema.{Schema}
 use Rattle.sqlite_tied.specs.Compute.{everything}
 use Rattle.sqlite.specs.Listing.{understood}
 use Rattle.lab_store_tables.specs.Schema.{desk, labs, sessions, fields, choices, records, entries, signatures, trail}
-use Rattle.lab_store_tables.specs.Sheets.{create_text}
+use Rattle.lab_store_tables.proofs.SheetWords.{create_text}
 use Rattle.lab_store_tables.specs.Family.{Persons, Forms, Versions}
 use Rattle.lab_move_tables.specs.OldSheets.{before}
-use Rattle.lab_move_tables.specs.OldSchema.{persons_text, forms_text, versions_text, persons, forms, versions, old_schema}
+use Rattle.lab_move_tables.specs.OldSchema.{persons, forms, versions, old_schema}
+use Rattle.lab_move_tables.proofs.OldSchemaWords.{persons_text, forms_text, versions_text}
 
 abbrev no_schema : Schema
 no_schema = record { tables = []; indexes = []; views = [] }

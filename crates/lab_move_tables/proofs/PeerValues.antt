@@ -10,7 +10,8 @@ use Rattle.sqlite_schema.specs.declared.schema.Table.{Table}
 use Rattle.sqlite_tied.specs.Compute.{everything}
 use Rattle.sqlite.specs.Listing.{understood}
 use Rattle.lab_store_tables.specs.Sheets.{table_of}
-use Rattle.lab_store_tables.specs.Family.{Name, Desk, Labs, Persons, Sessions, Forms, Fields, Choices, Records, Versions, Entries, Signatures, Trail, trees_by}
+use Rattle.lab_store_tables.specs.Family.{Name, Desk, Labs, Persons, Sessions, Forms, Fields, Choices, Records, Versions, Entries, Signatures, Trail}
+use Rattle.lab_store_tables.proofs.FamilyWords.{trees_by}
 use Rattle.lab_move_tables.specs.OldRows.{old_tables}
 use Rattle.lab_move_tables.specs.PeerFiles.{peer, loose, peer_schema}
 use Rattle.lab_move_tables.specs.Showing.{said, said_at}

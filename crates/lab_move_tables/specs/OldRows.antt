@@ -2,12 +2,12 @@
 -- stand. So what a laboratory of such a file means is the `meaning` of these tables.
 use Rattle.std.specs.Prelude.{◌≡◌, ℕ, List, Option}
 use Rattle.sqlite_value.specs.declared.value.Value.{Value}
-use Rattle.sqlite_value.specs.Order.{Row, bytes}
+use Rattle.sqlite_value.specs.Order.{bytes}
 use Rattle.sqlite_trees.specs.Tree.{Trees}
 use Rattle.sqlite.specs.Effect.{Database}
-use Rattle.lab_store_tables.specs.Rows.{PersonRow, FormRow, VersionRow, EntryRow, SignatureRow, Tables, optional_in}
+use Rattle.lab_store_tables.specs.Rows.{Tables, optional_in}
 use Rattle.sqlite_schema.specs.declared.schema.Schema.{Schema}
-use Rattle.lab_store_tables.specs.Family.{Persons, Forms, Versions, Entries, Signatures, Layout, row_by, from_by, tables_by}
+use Rattle.lab_store_tables.specs.Family.{Layout, tables_by}
 use Rattle.lab_store_tables.specs.Held.{AreRising, AreStoredBy}
 use Rattle.lab_store_laws.specs.ByRules.{IsByRules}
 use Rattle.lab_move_tables.specs.OldSchema.{old_schema}
@@ -16,30 +16,6 @@ pub use Rattle.lab_move_tables.specs.OldSheets.{old_rounds, beside}
 
 abbrev pub reason_in : Value → Option (List ℕ)
 reason_in value = said_in (optional_in bytes value)
-
-abbrev pub old_person_row : PersonRow → Row
-old_person_row = row_by before Persons
-
-abbrev pub old_person_from : Row → PersonRow
-old_person_from = from_by before Persons
-
-abbrev pub old_form_row : FormRow → Row
-old_form_row = row_by before Forms
-
-abbrev pub old_form_from : Row → FormRow
-old_form_from = from_by before Forms
-
-abbrev pub old_version_row : VersionRow → Row
-old_version_row = row_by before Versions
-
-abbrev pub old_version_from : Row → VersionRow
-old_version_from = from_by before Versions
-
-abbrev pub old_entry_from : Row → EntryRow
-old_entry_from = from_by before Entries
-
-abbrev pub old_signature_from : Row → SignatureRow
-old_signature_from = from_by before Signatures
 
 -- the tables of today's schema for which a file of schema 2 stands
 abbrev pub old_tables : Trees → Tables

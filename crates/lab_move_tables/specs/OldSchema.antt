@@ -12,15 +12,6 @@ use Rattle.lab_move_tables.specs.OldSheets as described
 
 -- ---- the texts that differ
 
-abbrev pub persons_text : List ℕ
-persons_text = codes "CREATE TABLE persons (id INTEGER PRIMARY KEY, lab INTEGER NOT NULL REFERENCES labs (id), code TEXT NOT NULL, name TEXT NOT NULL, roles INTEGER NOT NULL, retired INTEGER NOT NULL, failures INTEGER NOT NULL, locked INTEGER, kind INTEGER NOT NULL, salt BLOB, rounds INTEGER, bytes BLOB, salt2 BLOB, bytes2 BLOB, changed INTEGER, asker INTEGER REFERENCES persons (id), asked INTEGER, ask_salt BLOB, ask_bytes BLOB, UNIQUE (lab, code)) STRICT"
-
-abbrev pub forms_text : List ℕ
-forms_text = codes "CREATE TABLE forms (id INTEGER PRIMARY KEY, lab INTEGER NOT NULL REFERENCES labs (id), code TEXT NOT NULL, version INTEGER NOT NULL, UNIQUE (lab, code, version)) STRICT"
-
-abbrev pub versions_text : List ℕ
-versions_text = codes "CREATE TABLE versions (id INTEGER PRIMARY KEY, record INTEGER NOT NULL REFERENCES records (id), number INTEGER NOT NULL, opener INTEGER NOT NULL REFERENCES persons (id), opened INTEGER NOT NULL, reason TEXT, UNIQUE (record, number)) STRICT"
-
 -- ---- the tables that they come to: those of the descriptions
 
 abbrev pub persons : Table

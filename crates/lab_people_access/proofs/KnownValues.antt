@@ -9,7 +9,8 @@ use Rattle.lab_people_access.specs.declared.passwords.Password.TheVariants.{Chos
 use Rattle.lab_people_access.specs.declared.refusals.PeopleRefusal.TheVariants.{Credentials, NoSuchPerson}
 use Rattle.lab_people_access.specs.Roles.{no_roles, with_role, role_list}
 use Rattle.lab_people_access.specs.Policy.{is_open_to, rule_word}
-use Rattle.lab_people_access.specs.Passwords.{new_rounds, are_rounds, is_by_rounds, is_due, serves}
+use Rattle.lab_people_access.specs.Passwords.{new_rounds, are_rounds, is_due, serves}
+use Rattle.lab_people_access.proofs.PasswordWords.{is_by_rounds}
 use Rattle.lab_people_access.specs.Persons.{is_locked}
 use Rattle.lab_people_access.specs.Sessions.{is_live}
 use Rattle.lab_people_access.specs.Refusals.{people_refusal_entry}

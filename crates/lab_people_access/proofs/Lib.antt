@@ -1,1 +1,3 @@
+pub mod PasswordWords
+pub mod PersonWords
 pub mod KnownValues

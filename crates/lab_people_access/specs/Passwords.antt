@@ -30,12 +30,6 @@ old_rounds = 10000
 abbrev pub are_rounds : ℕ → Bool
 are_rounds rounds = (rounds == new_rounds) || (rounds == old_rounds)
 
--- each verifier of a password has
-abbrev pub is_by_rounds : Password → Bool
-is_by_rounds Unset = true
-is_by_rounds (Chosen verifier changed) = are_rounds verifier.rounds
-is_by_rounds (OneTime first second confirmed) = are_rounds first.rounds && are_rounds second.rounds
-
 -- a password that is chosen at the moment, with the salt
 abbrev pub chosen_password : List ℕ → List ℕ → ℕ → Password
 chosen_password text salt moment = Chosen (verifier_of text salt new_rounds) moment

@@ -2,10 +2,9 @@
 -- locked, and what an administrator asked for that still stands (21 CFR 11.300(d), "transaction
 -- safeguards to prevent unauthorized use of passwords"; the number and the spans of time are this
 -- system's own).
-use Rattle.std.specs.Prelude.{ℕ, ◌-◌, Bool, true, false, ◌&&◌, nat_lt, nat_le, List, [], ◌∷◌, Option, Some, None, is_some, bytes_eq, if◌then◌else◌}
+use Rattle.std.specs.Prelude.{ℕ, ◌-◌, Bool, false, nat_lt, nat_le, List, [], ◌∷◌, Option, Some, None, is_some, bytes_eq, if◌then◌else◌}
 use Rattle.lab_people_access.specs.declared.persons.Person.{Person}
 use Rattle.lab_people_access.specs.declared.persons.Ask.{Ask}
-use Rattle.lab_people_access.specs.Passwords.{are_rounds, is_by_rounds}
 
 -- the most persons of a laboratory, retired ones too
 abbrev pub person_limit : ℕ
@@ -45,12 +44,3 @@ stands ask moment = nat_le (moment - ask.asked) ask_span
 abbrev pub standing_ask : Option Ask → ℕ → Option Ask
 standing_ask None moment = None
 standing_ask (Some ask) moment = if stands ask moment then Some ask else None
-
--- the verifier of what was asked for, if it was, has rounds by which they are or were made
-abbrev pub is_asked_by_rounds : Option Ask → Bool
-is_asked_by_rounds None = true
-is_asked_by_rounds (Some ask) = are_rounds ask.first.rounds
-
--- each verifier that is kept of a person has
-abbrev pub has_rounds : Person → Bool
-has_rounds person = is_by_rounds person.password && is_asked_by_rounds person.ask

@@ -1,3 +1,4 @@
+pub mod VisitWords
 pub mod KnownRehearsals
 pub mod KnownServing
 pub mod RehearsalLemmas

@@ -5,7 +5,8 @@ use Rattle.lab_records_keeper.specs.declared.keeper.Keeper.{Ghosts}
 use Rattle.lab_desk_foundings.specs.declared.run_faults.ServeFault.TheVariants.{Read, Interim, Reply}
 use Rattle.lab_program_host.specs.declared.faults.ConnectionFault.TheVariants.{Serving, Memory}
 use Rattle.lab_program_host.specs.Sources.{Gives, drawing_of}
-use Rattle.lab_program_serve.specs.Visits.{AreFirst, AreGiven, AreVisits, Ending, IsFront, IsVisit, OnUnserved, Sources, Visit, reply_after}
+use Rattle.lab_program_serve.specs.Visits.{AreFirst, AreGiven, AreVisits, Ending, IsFront, IsVisit, OnUnserved, Sources, Visit}
+use Rattle.lab_program_serve.proofs.VisitWords.{reply_after}
 
 -- ---- what sources give
 

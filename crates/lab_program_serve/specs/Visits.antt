@@ -83,11 +83,6 @@ module _ {S : Type 0} (keeper : Ghosts S) where
       × Between reply old start × IsVisit start visit next
       × AreVisits Between visit.exchange.reply next visits new
 
--- the last reply, behind a reply and those of connections
-abbrev pub reply_after : List ℕ → List Visit → List ℕ
-reply_after reply [] = reply
-reply_after reply (visit ∷ visits) = reply_after visit.exchange.reply visits
-
 -- what a listener, a clock and a source of random words give before serving and after it, where
 -- that is known: of a connection, what its client sends, where that is known
 pub record Sources : Type 0 where

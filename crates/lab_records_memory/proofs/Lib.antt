@@ -1,3 +1,4 @@
+pub mod ListLawsWords
 pub mod Finds
 pub mod KnownValues
 pub mod Listing

@@ -11,7 +11,7 @@ use Rattle.lab_records_keeper.specs.Worlds.{Meaning, SameMeaning}
 use Rattle.lab_records_memory.specs.Lists.{ChangesInPlace, has_code, lab_of}
 
 -- writing what stands in a place leaves the list
-set_same : (labs : List Lab) (place : ℕ) (lab : Lab) → slice_get labs place ≡ Some lab →
+pub set_same : (labs : List Lab) (place : ℕ) (lab : Lab) → slice_get labs place ≡ Some lab →
     slice_set labs place lab ≡ labs
 set_same labs place lab found =
     subst (λ (one : Lab). slice_set labs place one ≡ labs)
@@ -29,19 +29,6 @@ unchanged_in_place old new code same = in_place (slice_get old place) refl
         (λ lab. new ≡ slice_set old place lab)
     in_place None none = same
     in_place (Some lab) there = same ∙ sym (set_same old place lab there)
-
--- and what no change made is the list as it was
-pub nothing_moved : (old new : List Lab) (code : List ℕ) → ChangesInPlace old new code [] →
-    new ≡ old
-nothing_moved old new code moved = by_place (slice_get old place) refl moved
-  where
-    place : ℕ
-    place = position_or_len (has_code code) old
-
-    by_place : (found : Option Lab) → slice_get old place ≡ found → MatchOption found (new ≡ old)
-        (λ lab. new ≡ slice_set old place lab) → new ≡ old
-    by_place None none same = same
-    by_place (Some lab) there set = set ∙ set_same old place lab there
 
 -- changes after a rest are changes of the list before it
 pub changed_after_rest : (first next last : List Lab) (code : List ℕ) (changes : List Change) →

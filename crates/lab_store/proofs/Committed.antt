@@ -10,7 +10,8 @@ use Rattle.lab_store_tables.specs.WellKept.{IsWellKept}
 use Rattle.lab_store_tables.specs.Held.{AreRising}
 use Rattle.lab_store_tables.specs.Ready.{IsKept, IsReady, IsMadeBy, tables_of}
 use Rattle.lab_store.specs.Commits.{Ends}
-use Rattle.lab_store.specs.StoreWorlds.{world_of, SameRows}
+use Rattle.lab_store.specs.StoreWorlds.{world_of}
+use Rattle.lab_store.proofs.StoreWorldWords.{SameRows}
 
 -- by a step of well-kept tables that means this of the laboratories and leaves them well kept
 module _ (step : Tables → Tables → Type 0) (Means : Meaning → Meaning → Type 0) (old new : State) (ready : IsReady old) where

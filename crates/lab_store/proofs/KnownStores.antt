@@ -9,7 +9,8 @@ use Rattle.lab_store_tables.specs.Meaning.{meaning}
 use Rattle.lab_store_tables.specs.Ready.{IsKept, tables_of}
 use Rattle.lab_store_tables.proofs.KnownFile.{file}
 use Rattle.lab_store_tables.proofs.KnownValues.{aqua}
-use Rattle.lab_store.specs.StoreWorlds.{MayLeave, IsSafe, world_of, SameRows}
+use Rattle.lab_store.specs.StoreWorlds.{MayLeave, IsSafe, world_of}
+use Rattle.lab_store.proofs.StoreWorldWords.{SameRows}
 
 -- a connection after whose crash nothing, or only what it shows, may be found
 abbrev leaving_none : State → State

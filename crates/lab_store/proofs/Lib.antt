@@ -1,3 +1,4 @@
+pub mod StoreWorldWords
 mod After
 mod Applied
 mod Commits

@@ -10,7 +10,8 @@ use Rattle.lab_records_keeper.specs.Worlds.{IsDurable}
 use Rattle.lab_store_tables.specs.Rows.{tables_in}
 use Rattle.lab_store_tables.specs.Meaning.{meaning}
 use Rattle.lab_store_tables.specs.Ready.{IsAtRest, IsReady, PassesBy}
-use Rattle.lab_store.specs.StoreWorlds.{world_of, SameRows}
+use Rattle.lab_store.specs.StoreWorlds.{world_of}
+use Rattle.lab_store.proofs.StoreWorldWords.{SameRows}
 
 module _ {S : Type 0} (g : Ghosts S) (stays : (s : S) → IsTrue (g.view s).is_open → g.recovers s (g.view s).committed)
     (settled : (s : S) (db : Trees) → IsTrue (g.view s).is_open → g.recovers s db → db ≡ (g.view s).committed) where

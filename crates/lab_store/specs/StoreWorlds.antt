@@ -38,7 +38,3 @@ module _ {S : Type 0} (g : Ghosts S) where
 
   abbrev pub store_rests : Held S → Held S → Type 0
   store_rests old new = tables_of (state g new) ≡ tables_of (state g old)
-
--- the rows of all tables are as they were
-abbrev pub SameRows : State → State → Type 0
-SameRows old new = tables_of new ≡ tables_of old

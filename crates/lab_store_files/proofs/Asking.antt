@@ -37,7 +37,8 @@ use Rattle.sqlite.specs.Listing.{understood, if_select, is_select, listing_schem
 use Rattle.sqlite.specs.State.{State, HasCleanDisk, IsUnchanged, IsRolledBack, IsNotRun, Shown, ShowsRows, FailsToQuery, FailsToShow, Survives, CommitsShowing}
 use Rattle.sqlite.proofs.Callers.{reads_as, one_permutation}
 use Rattle.lab_store_tables.specs.Schema.{schema_number, lab_schema}
-use Rattle.lab_store_tables.specs.Rows.{DeskRow, desk_row, desk_id, tables_in, number}
+use Rattle.lab_store_tables.specs.Rows.{DeskRow, desk_id, tables_in, number}
+use Rattle.lab_store_tables.proofs.RowWords.{desk_row}
 use Rattle.lab_store_tables.specs.WellKept.{is_desk}
 use Rattle.lab_store_tables.specs.Ready.{IsAtRest, IsKept, LeavesNoMore, PassesBy, WhereShown}
 use Rattle.lab_store_tables.specs.Family.{Desk}

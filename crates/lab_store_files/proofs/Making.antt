@@ -28,8 +28,9 @@ use Rattle.sqlite.specs.Does.{Tally, Does, lacks_sequence}
 use Rattle.sqlite.specs.Listing.{understood}
 use Rattle.sqlite.specs.State.{State, mode_of, Writes, Executes, ExecutesInside}
 use Rattle.sqlite.proofs.Callers.{runs_as, one_step, statement_of}
-use Rattle.lab_store_tables.specs.Schema.{desk, sessions, sessions_of_person, sessions_of_person_text, lab_schema}
-use Rattle.lab_store_tables.specs.Rows.{desk_row}
+use Rattle.lab_store_tables.specs.Schema.{desk, sessions, sessions_of_person, lab_schema}
+use Rattle.lab_store_tables.proofs.SchemaWords.{sessions_of_person_text}
+use Rattle.lab_store_tables.proofs.RowWords.{desk_row}
 use Rattle.lab_store_tables.specs.Family.{Desk, empty_tables}
 use Rattle.lab_store_tables.specs.WellKept.{IsWellKept}
 use Rattle.lab_store_tables.specs.Ready.{IsKept}

@@ -7,7 +7,7 @@ use Rattle.lab_records_kept.specs.declared.records.Version.{Version}
 use Rattle.lab_records_kept.specs.Digests.{digest_of}
 use Rattle.lab_records_kept.specs.Lookups.{last_of}
 use Rattle.lab_store_tables.specs.Meaning.{Leaf, version_after, chained}
-use Rattle.lab_store_laws.specs.Chain.{digest_at_end}
+use Rattle.lab_store_laws.proofs.ChainWords.{digest_at_end}
 
 -- the last of more than one is the last of those behind the first
 last_behind : {A : Type 0} (first second : A) (others : List A) → last_of (first ∷ second ∷ others) ≡ last_of (second ∷ others)

@@ -12,7 +12,7 @@ use Rattle.lab_records_kept.specs.declared.records.Signature.{Signature}
 use Rattle.lab_records_kept.specs.Digests.{digest_of}
 use Rattle.lab_records_kept.specs.Changes.{with_row, with_signature, in_last, in_version}
 use Rattle.lab_store_tables.specs.Meaning.{Leaf, version_after, chained}
-use Rattle.lab_store_laws.specs.Chain.{digest_at_end, entered_leaf, signed_leaf, is_leaf, same_leaf}
+use Rattle.lab_store_laws.proofs.ChainWords.{digest_at_end, entered_leaf, signed_leaf, is_leaf, same_leaf}
 
 -- ---- a version more
 

@@ -28,7 +28,8 @@ use Rattle.sqlite_keyed.proofs.SliceLemmas.{any_is_found}
 use Rattle.sqlite.specs.Effect.{Database}
 use Rattle.lab_store_tables.specs.Schema as tables
 use Rattle.lab_store_tables.specs.Schema.{lab_schema}
-use Rattle.lab_store_tables.specs.Rows.{LabRow, PersonRow, SessionRow, FormRow, FieldRow, ChoiceRow, RecordRow, VersionRow, EntryRow, SignatureRow, TrailRow, Tables, tables_in, natural, optional, lab_row, person_row, session_row, form_row, field_row, choice_row, record_row, version_row, entry_row, signature_row, trail_row, lab_id, person_id, session_id, form_id, field_id, choice_id, record_id, version_id, entry_id, signature_id, trail_id}
+use Rattle.lab_store_tables.specs.Rows.{LabRow, PersonRow, SessionRow, FormRow, FieldRow, ChoiceRow, RecordRow, VersionRow, EntryRow, SignatureRow, TrailRow, Tables, tables_in, natural, optional, lab_id, person_id, session_id, form_id, field_id, choice_id, record_id, version_id, entry_id, signature_id, trail_id}
+use Rattle.lab_store_tables.proofs.RowWords.{lab_row, person_row, session_row, form_row, field_row, choice_row, record_row, version_row, entry_row, signature_row, trail_row}
 use Rattle.lab_store_tables.specs.Held.{AreRising, IsTyped}
 use Rattle.lab_store_tables.specs.WellKept.{are_apart, same_lab, same_person, same_token, same_session, same_form, same_field, same_key, same_choice, same_record, same_sample, same_version, same_entry, same_signature, same_meaning, same_told, have_own_ids, are_ids_unique, are_keys_unique, have_parents, are_arrows_whole}
 use Rattle.lab_store_tables.specs.Family.{Labs, Persons, Sessions, Forms, Fields, Choices, Records, Versions, Entries, Signatures, Trail}

@@ -4,14 +4,16 @@ use Rattle.std.proofs.Common.{◌≡◌, ℕ, ◌==◌, pos, true, false, List, 
 use Rattle.std.specs.Prelude.{if◌then◌else◌, codes, length}
 use Rattle.sqlite_value.specs.Order.{Row}
 use Rattle.lab_records_kept.specs.Digests.{digest_of}
-use Rattle.lab_store_tables.specs.Rows.{Tables, desk_row, lab_row}
+use Rattle.lab_store_tables.specs.Rows.{Tables}
+use Rattle.lab_store_tables.proofs.RowWords.{desk_row, lab_row}
 use Rattle.lab_store_tables.specs.Meaning.{Leaf, leaves_of}
-use Rattle.lab_store_tables.specs.Family.{Name, Desk, Labs, rows, stored_row, tree_of}
+use Rattle.lab_store_tables.specs.Family.{Name, Desk, Labs, rows}
+use Rattle.lab_store_tables.proofs.FamilyWords.{stored_row, tree_of}
 use Rattle.lab_store_tables.proofs.KnownFile.{filled, desk, lab}
 use Rattle.lab_store_tables.proofs.KnownFile as known
 use Rattle.lab_store_tables.proofs.KnownValues.{aqua_record, older_version}
 use Rattle.lab_store_tables.proofs.KnownChanges.{entered, new_entry}
-use Rattle.lab_store_laws.specs.Chain.{digest_at_end, entered_leaf, is_leaf, same_leaf}
+use Rattle.lab_store_laws.proofs.ChainWords.{digest_at_end, entered_leaf, is_leaf, same_leaf}
 use Rattle.lab_store_tables.specs.Held.{AreStored}
 
 -- ---- versions by their own rows

@@ -5,7 +5,8 @@ use Rattle.sqlite_keyed.specs.Keyed.{get_by}
 use Rattle.sqlite_keyed.proofs.ListLemmas.{all_weaker}
 use Rattle.lab_store_tables.specs.Rows.{PersonRow, FormRow, FieldRow, RecordRow, VersionRow, Tables, person_id, form_id, field_id, record_id, version_id}
 use Rattle.lab_store_tables.specs.WellKept.{lab_of_person, lab_of_form, lab_of_record, lab_of_version, is_same, is_of_lab}
-use Rattle.lab_store_tables.specs.Family.{Name, Persons, Sessions, Forms, Fields, Choices, Records, Versions, Entries, Signatures, Trail, RowOf, rows, with_rows}
+use Rattle.lab_store_tables.specs.Family.{Name, Persons, Sessions, Forms, Fields, Choices, Records, Versions, Entries, Signatures, Trail, RowOf, rows}
+use Rattle.lab_store_tables.proofs.FamilyWords.{with_rows}
 use Rattle.lab_store_laws.proofs.Tables.{each}
 use Rattle.lab_store_laws.proofs.Kept.{IsRowKept, AreKept, AreRowsKept}
 

@@ -1,3 +1,4 @@
+pub mod ChainWords
 pub mod AllChanges
 pub mod Bridges
 pub mod ChainEnds

@@ -18,7 +18,7 @@ use Rattle.lab_store_tables.specs.Meaning.{Leaf, lab_in, has_code, meaning, leaf
 use Rattle.lab_store_tables.specs.WellKept.{AreWellKept}
 use Rattle.lab_store_tables.specs.Changes.{is_record_row, record_named, is_version_row, version_named, entry_row_of, put_entry, signature_row_of, put_signature, AddsEntry, AddsSignature, Applies}
 use Rattle.lab_store_tables.specs.Held.{AreRising}
-use Rattle.lab_store_laws.specs.Chain.{entered_leaf, signed_leaf, is_leaf}
+use Rattle.lab_store_laws.proofs.ChainWords.{entered_leaf, signed_leaf, is_leaf}
 use Rattle.lab_store_laws.proofs.LevelLaws.{had_by}
 use Rattle.lab_store_laws.proofs.LabLaws.{alike, rows_changed}
 use Rattle.lab_store_laws.proofs.PartLaws.{entered_law, signed_law}

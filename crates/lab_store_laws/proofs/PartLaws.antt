@@ -10,7 +10,7 @@ use Rattle.lab_store_tables.specs.WellKept.{are_ids_unique, are_all_numbered}
 use Rattle.lab_store_tables.specs.Changes.{IsFree, person_named, entry_row_of, put_entry, signature_row_of, put_signature, choice_row_of, put_choice}
 use Rattle.lab_store_tables.specs.Held.{AreRising}
 use Rattle.lab_store_tables.specs.Family.{Choices, Entries, Signatures}
-use Rattle.lab_store_laws.specs.Chain.{entered_leaf, signed_leaf}
+use Rattle.lab_store_laws.proofs.ChainWords.{entered_leaf, signed_leaf}
 use Rattle.lab_store_laws.proofs.ColumnsBack.{meaning_back}
 use Rattle.lab_store_laws.proofs.NumberLaws.{numbered_last}
 use Rattle.lab_store_laws.proofs.TrailLaws.{persons_own, code_named}

@@ -4,7 +4,8 @@ use Rattle.std.proofs.lemmas.Bool.{and_from}
 use Rattle.sqlite_keyed.specs.Keyed.{insert_by}
 use Rattle.sqlite_keyed.proofs.KeyedLemmas.{all-insert_by}
 use Rattle.lab_store_tables.specs.Rows.{PersonRow, RecordRow, Tables, person_id, form_id, field_id, record_id, version_id}
-use Rattle.lab_store_tables.specs.Family.{Name, Desk, Labs, Persons, Sessions, Forms, Fields, Choices, Records, Versions, Entries, Signatures, Trail, RowOf, id_of, rows, put}
+use Rattle.lab_store_tables.specs.Family.{Name, Desk, Labs, Persons, Sessions, Forms, Fields, Choices, Records, Versions, Entries, Signatures, Trail, RowOf, id_of, rows}
+use Rattle.lab_store_tables.proofs.FamilyWords.{put}
 use Rattle.lab_store_tables.specs.Changes.{IsFree}
 use Rattle.lab_store_laws.proofs.LabLaws.{alike}
 use Rattle.lab_store_laws.proofs.Kept.{is_beside, number_of, AreNumberedIn, IsRowKept, AreRowsKept}

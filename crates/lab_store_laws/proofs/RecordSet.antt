@@ -18,7 +18,7 @@ use Rattle.lab_records_kept.specs.Changes.{in_record, in_last, with_row}
 use Rattle.lab_store_tables.specs.Rows.{RecordRow, VersionRow, Tables, record_id, version_id}
 use Rattle.lab_store_tables.specs.Meaning.{Leaf, leaf_in, by_version, leaves_of, version_after, chained, record_in, by_record, records_of}
 use Rattle.lab_store_tables.specs.WellKept.{is_current}
-use Rattle.lab_store_laws.specs.Chain.{entered_leaf, is_leaf, same_leaf}
+use Rattle.lab_store_laws.proofs.ChainWords.{entered_leaf, is_leaf, same_leaf}
 use Rattle.lab_store_laws.proofs.SortLaws.{all_sorted}
 use Rattle.lab_store_laws.proofs.LevelLaws.{had_by}
 use Rattle.lab_store_laws.proofs.LabLaws.{alike}

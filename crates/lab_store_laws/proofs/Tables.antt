@@ -11,7 +11,8 @@ use Rattle.sqlite_keyed.proofs.ListLemmas.{map_back}
 use Rattle.sqlite.specs.Effect.{Database}
 use Rattle.lab_store_tables.specs.Schema.{lab_schema}
 use Rattle.lab_store_tables.specs.RowRecords.{Tables}
-use Rattle.lab_store_tables.specs.Family.{Name, Desk, Labs, Persons, Sessions, Forms, Fields, Choices, Records, Versions, Entries, Signatures, Trail, RowOf, kept, tree_of, id_of, stored_row, read_row, rows, with_rows, made_of, tables_in, empty_tables}
+use Rattle.lab_store_tables.specs.Family.{Name, Desk, Labs, Persons, Sessions, Forms, Fields, Choices, Records, Versions, Entries, Signatures, Trail, RowOf, kept, id_of, rows, made_of, tables_in, empty_tables}
+use Rattle.lab_store_tables.proofs.FamilyWords.{tree_of, stored_row, read_row, with_rows}
 use Rattle.lab_store_tables.specs.Held.{AreRising, AreStored, Holds}
 use Rattle.lab_store_laws.proofs.CellsBack.{cells_back}
 

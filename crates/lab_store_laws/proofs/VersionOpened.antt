@@ -20,7 +20,7 @@ use Rattle.lab_store_tables.specs.Meaning.{Leaf, lab_in, has_code, meaning, leaf
 use Rattle.lab_store_tables.specs.WellKept.{same_record, AreWellKept}
 use Rattle.lab_store_tables.specs.Changes.{AddsVersion, record_named, set_current, Applies}
 use Rattle.lab_store_tables.specs.Held.{AreRising}
-use Rattle.lab_store_laws.specs.Chain.{digest_at_end}
+use Rattle.lab_store_laws.proofs.ChainWords.{digest_at_end}
 use Rattle.lab_store_laws.proofs.ChainLaws.{chained_more}
 use Rattle.lab_store_laws.proofs.NumberLaws.{length_sorted}
 use Rattle.lab_store_laws.proofs.LevelLaws.{had_by, unseen}

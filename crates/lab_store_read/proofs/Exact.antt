@@ -7,7 +7,8 @@ use Rattle.sqlite_typed.proofs.AnswerLemmas.{last_table, at_end}
 use Rattle.sqlite.specs.State.{State, Shown}
 use Rattle.sqlite.proofs.Callers.{reads_as}
 use Rattle.lab_store_tables.specs.Schema.{lab_schema}
-use Rattle.lab_store_tables.specs.Rows.{PersonRow, tables_in, person_row, person_id}
+use Rattle.lab_store_tables.specs.Rows.{PersonRow, tables_in, person_id}
+use Rattle.lab_store_tables.proofs.RowWords.{person_row}
 use Rattle.lab_store_tables.specs.Ready.{IsKept}
 use Rattle.lab_store_tables.specs.Family.{Persons}
 use Rattle.std.specs.Ordering.{int_eq}

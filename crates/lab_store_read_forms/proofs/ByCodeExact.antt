@@ -7,7 +7,8 @@ use Rattle.sqlite_typed.proofs.AnswerLemmas.{last_table, at_end}
 use Rattle.sqlite.specs.State.{State, Shown}
 use Rattle.sqlite.proofs.Callers.{reads_as}
 use Rattle.lab_store_tables.specs.Schema.{lab_schema}
-use Rattle.lab_store_tables.specs.Rows.{FormRow, form_row, form_id, tables_in}
+use Rattle.lab_store_tables.specs.Rows.{FormRow, form_id, tables_in}
+use Rattle.lab_store_tables.proofs.RowWords.{form_row}
 use Rattle.lab_store_tables.specs.Ready.{IsKept}
 use Rattle.lab_store_read.proofs.Sorted.{equal_ints, equal_texts, and_true, equal_numbers, only_answer, sorted_answer}
 use Rattle.lab_store_read_forms.specs.FormsByCode.{is_exact, exact_shown, is_of_code, form_versions_shown}

@@ -7,7 +7,8 @@ use Rattle.sqlite_typed.proofs.AnswerLemmas.{last_table, at_end}
 use Rattle.sqlite.specs.State.{State, Shown}
 use Rattle.sqlite.proofs.Callers.{reads_as}
 use Rattle.lab_store_tables.specs.Schema.{lab_schema}
-use Rattle.lab_store_tables.specs.Rows.{FormRow, FieldRow, tables_in, form_row, form_id, field_row, field_id}
+use Rattle.lab_store_tables.specs.Rows.{FormRow, FieldRow, tables_in, form_id, field_id}
+use Rattle.lab_store_tables.proofs.RowWords.{form_row, field_row}
 use Rattle.lab_store_tables.specs.Ready.{IsKept}
 use Rattle.lab_store_tables.specs.Family.{Forms, Fields}
 use Rattle.std.specs.Ordering.{int_eq, nat_cmp}

@@ -8,7 +8,8 @@ use Rattle.sqlite_sql.specs.Term.{col}
 use Rattle.sqlite.specs.State.{State, Shown}
 use Rattle.sqlite.proofs.Callers.{reads_as}
 use Rattle.lab_store_tables.specs.Schema.{lab_schema}
-use Rattle.lab_store_tables.specs.Rows.{ChoiceRow, tables_in, choice_row, choice_id}
+use Rattle.lab_store_tables.specs.Rows.{ChoiceRow, tables_in, choice_id}
+use Rattle.lab_store_tables.proofs.RowWords.{choice_row}
 use Rattle.lab_store_tables.specs.Ready.{IsKept}
 use Rattle.lab_store_tables.specs.Family.{Choices}
 use Rattle.lab_store_read.proofs.Lists.{untied_in}

@@ -12,7 +12,8 @@ use Rattle.sqlite_typed.proofs.AnswerLemmas.{last_table, next_table, at_end}
 use Rattle.sqlite.specs.State.{State, Shown}
 use Rattle.sqlite.proofs.Callers.{reads_as}
 use Rattle.lab_store_tables.specs.Schema.{lab_schema}
-use Rattle.lab_store_tables.specs.Rows.{PersonRow, SessionRow, tables_in, person_row, person_id, session_row, session_id, number, flag}
+use Rattle.lab_store_tables.specs.Rows.{PersonRow, SessionRow, tables_in, person_id, session_id, number, flag}
+use Rattle.lab_store_tables.proofs.RowWords.{person_row, session_row}
 use Rattle.lab_store_tables.specs.Ready.{IsKept}
 use Rattle.lab_store_tables.specs.Changes.{is_session}
 use Rattle.lab_store_tables.specs.Family.{Persons, Sessions}

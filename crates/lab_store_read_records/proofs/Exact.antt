@@ -17,7 +17,8 @@ use Rattle.sqlite_typed.proofs.AnswerLemmas.{last_table, next_table, at_end}
 use Rattle.sqlite.specs.State.{State, Shown}
 use Rattle.sqlite.proofs.Callers.{reads_as}
 use Rattle.lab_store_tables.specs.Schema.{lab_schema}
-use Rattle.lab_store_tables.specs.Rows.{LabRow, RecordRow, PersonRow, EntryRow, tables_in, lab_row, record_row, person_row, version_row, entry_row, signature_row, lab_id, record_id, person_id, version_id, entry_id, signature_id, number, optional}
+use Rattle.lab_store_tables.specs.Rows.{LabRow, RecordRow, PersonRow, EntryRow, tables_in, lab_id, record_id, person_id, version_id, entry_id, signature_id, number, optional}
+use Rattle.lab_store_tables.proofs.RowWords.{lab_row, record_row, person_row, version_row, entry_row, signature_row}
 use Rattle.lab_store_tables.specs.Meaning.{has_code, code_of}
 use Rattle.lab_store_tables.specs.Ready.{IsKept}
 use Rattle.lab_store_tables.specs.Family.{Labs, Persons, Records, Versions, Entries, Signatures}

@@ -7,7 +7,8 @@ use Rattle.sqlite_typed.proofs.AnswerLemmas.{last_table, at_end}
 use Rattle.sqlite.specs.State.{State, Shown}
 use Rattle.sqlite.proofs.Callers.{reads_as}
 use Rattle.lab_store_tables.specs.Schema.{lab_schema}
-use Rattle.lab_store_tables.specs.Rows.{RecordRow, tables_in, record_row, record_id}
+use Rattle.lab_store_tables.specs.Rows.{RecordRow, tables_in, record_id}
+use Rattle.lab_store_tables.proofs.RowWords.{record_row}
 use Rattle.lab_store_tables.specs.Ready.{IsKept}
 use Rattle.lab_store_tables.specs.Family.{Records}
 use Rattle.std.specs.Ordering.{nat_cmp}

@@ -7,7 +7,8 @@ use Rattle.sqlite_sql.specs.Program.{overlay}
 use Rattle.sqlite.specs.State.{State, Shown}
 use Rattle.sqlite.proofs.Callers.{reads_as}
 use Rattle.lab_store_tables.specs.Schema.{lab_schema}
-use Rattle.lab_store_tables.specs.Rows.{TrailRow, tables_in, trail_row, trail_id}
+use Rattle.lab_store_tables.specs.Rows.{TrailRow, tables_in, trail_id}
+use Rattle.lab_store_tables.proofs.RowWords.{trail_row}
 use Rattle.lab_store_tables.specs.Ready.{IsKept}
 use Rattle.lab_store_tables.specs.Family.{Trail}
 use Rattle.lab_store_read.proofs.Texts.{is_param, range_tests}

@@ -2,7 +2,8 @@
 use Rattle.std.proofs.Common.{◌≡◌, true, map, refl}
 use Rattle.sqlite.specs.Effect.{Database}
 use Rattle.lab_store_tables.specs.Schema.{lab_schema}
-use Rattle.lab_store_tables.specs.Family.{Name, Desk, id_of, rows, stored_row, tables_in, tree_of, trees_of}
+use Rattle.lab_store_tables.specs.Family.{Name, Desk, id_of, rows, tables_in}
+use Rattle.lab_store_tables.proofs.FamilyWords.{stored_row, tree_of, trees_of}
 use Rattle.lab_store_tables.specs.Held.{Holds}
 use Rattle.lab_store_tables.proofs.KnownFile.{file}
 use Rattle.lab_store_tables.proofs.Tests.{are_rising, keyed_from_test}

@@ -3,7 +3,7 @@
 use Rattle.std.proofs.Common.{◌≡◌, pos, true, false, [], ◌∷◌, map, Some, None, refl}
 use Rattle.std.specs.Prelude.{codes}
 use Rattle.sqlite_value.specs.declared.value.Value.TheVariants.{Null, Int, Text, Blob}
-use Rattle.lab_store_tables.specs.Rows.{desk_row, desk_from, lab_row, lab_from, person_row, person_from, session_row, session_from, form_row, form_from, field_row, field_from, choice_row, choice_from, record_row, record_from, version_row, version_from, entry_row, entry_from, signature_row, signature_from, trail_row, trail_from}
+use Rattle.lab_store_tables.proofs.RowWords.{desk_row, desk_from, lab_row, lab_from, person_row, person_from, session_row, session_from, form_row, form_from, field_row, field_from, choice_row, choice_from, record_row, record_from, version_row, version_from, entry_row, entry_from, signature_row, signature_from, trail_row, trail_from}
 use Rattle.lab_store_tables.proofs.KnownFile.{filled, file, desk, lab, person, session, form, field, choice, filed, version, entry, signature, told, chosen, asked_by, number_of}
 
 pub known_desk : desk_row

@@ -24,7 +24,7 @@ use Rattle.lab_records_kept.specs.Digests.{digest_of}
 use Rattle.lab_store_tables.specs.Rows.{DeskRow, LabRow, PersonRow, SessionRow, FormRow, FieldRow, ChoiceRow, RecordRow, VersionRow, EntryRow, SignatureRow, TrailRow, Tables, natural}
 use Rattle.lab_store_tables.specs.Meaning.{meaning}
 use Rattle.lab_store_tables.specs.WellKept.{are_ids_unique, are_keys_unique, are_arrows_whole, are_labs_apart, are_all_numbered, is_said_alike, is_desk, are_columns_whole}
-use Rattle.lab_store_tables.specs.Agree.{Agree}
+use Rattle.lab_store_tables.proofs.AgreeWords.{Agree}
 use Rattle.lab_store_tables.proofs.KnownFile.{filled, file, lab, person, session, filed, version, entry, signature, told, choice, desk, chosen, unasked, asked_by}
 
 -- ---- what is expected

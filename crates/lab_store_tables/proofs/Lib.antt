@@ -1,3 +1,8 @@
+pub mod SheetWords
+pub mod FamilyWords
+pub mod SchemaWords
+pub mod RowWords
+pub mod AgreeWords
 pub mod SchemaValues
 pub mod SheetValues
 pub mod Tests

@@ -5,7 +5,8 @@ use Rattle.sqlite_catalog.specs.Change.{created, indexed}
 use Rattle.sqlite_schema.specs.declared.schema.Schema.{Schema}
 use Rattle.sqlite_tied.specs.Compute.{everything}
 use Rattle.sqlite.specs.Listing.{understood}
-use Rattle.lab_store_tables.specs.Schema.{desk, labs, persons, sessions, forms, fields, choices, records, versions, entries, signatures, trail, desk_text, labs_text, persons_text, sessions_text, forms_text, fields_text, choices_text, records_text, versions_text, entries_text, signatures_text, trail_text, sessions_of_person, sessions_of_person_text, lab_schema}
+use Rattle.lab_store_tables.specs.Schema.{desk, labs, persons, sessions, forms, fields, choices, records, versions, entries, signatures, trail, desk_text, labs_text, persons_text, sessions_text, forms_text, fields_text, choices_text, records_text, versions_text, entries_text, signatures_text, trail_text, sessions_of_person, lab_schema}
+use Rattle.lab_store_tables.proofs.SchemaWords.{sessions_of_person_text}
 
 abbrev no_schema : Schema
 no_schema = record { tables = []; indexes = []; views = [] }

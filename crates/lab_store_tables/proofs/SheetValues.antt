@@ -1,7 +1,7 @@
 -- The text that makes each table is the one of its description, word for word.
 use Rattle.std.proofs.Common.{◌≡◌, ℕ, List, refl}
 use Rattle.lab_store_tables.specs.Schema as schema
-use Rattle.lab_store_tables.specs.Sheets.{create_text}
+use Rattle.lab_store_tables.proofs.SheetWords.{create_text}
 use Rattle.lab_store_tables.specs.Family.{Name, Desk, Labs, Persons, Sessions, Forms, Fields, Choices, Records, Versions, Entries, Signatures, Trail, kept}
 
 abbrev text_of : Name → List ℕ

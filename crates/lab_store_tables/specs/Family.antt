@@ -1,12 +1,10 @@
 -- The twelve tables by name, and what is said of all of them once.
-use Rattle.std.specs.Prelude.{ℕ, ℤ, ◌==◌, List, [], ◌∷◌, map, if◌then◌else◌}
+use Rattle.std.specs.Prelude.{ℤ, List, [], ◌∷◌, map}
 use Rattle.sqlite_value.specs.Order.{Row, column}
 use Rattle.sqlite_value.specs.declared.value.Value.TheVariants.{Null, Int}
 use Rattle.sqlite_trees.specs.Tree.{Trees}
 use Rattle.sqlite_rules.specs.Edit.{id_in}
-use Rattle.sqlite_schema.specs.declared.schema.Table.{Table}
-use Rattle.sqlite_keyed.specs.Keyed.{insert_by}
-use Rattle.lab_store_tables.specs.Sheets.{Sheet, Cells, row_of, cells_at, table_of}
+use Rattle.lab_store_tables.specs.Sheets.{Sheet, Cells, row_of, cells_at}
 use Rattle.lab_store_tables.specs.RowRecords.{Tables, DeskRow, LabRow, PersonRow, SessionRow, FormRow, FieldRow, ChoiceRow, RecordRow, VersionRow, EntryRow, SignatureRow, TrailRow}
 use Rattle.lab_store_tables.specs.Descriptions as sheets
 use Rattle.lab_store_tables.specs.Descriptions.{desk_cells, desk_make, lab_cells, lab_make, person_cells, person_make, session_cells, session_make, form_cells, form_make, field_cells, field_make, choice_cells, choice_make, record_cells, record_make, version_cells, version_make, entry_cells, entry_make, signature_cells, signature_make, trail_cells, trail_make}
@@ -24,10 +22,6 @@ pub data Name : Type 0 where
   Entries : Name
   Signatures : Name
   Trail : Name
-
-abbrev names : List Name
-names =
-    Desk ∷ Labs ∷ Persons ∷ Sessions ∷ Forms ∷ Fields ∷ Choices ∷ Records ∷ Versions ∷ Entries ∷ Signatures ∷ Trail ∷ []
 
 abbrev pub RowOf : Name → Type 0
 RowOf Desk = DeskRow
@@ -97,20 +91,6 @@ made_of all = record {
 abbrev pub empty_tables : Tables
 empty_tables = made_of (λ _. [])
 
-abbrev pub with_rows : (k : Name) → List (RowOf k) → Tables → Tables
-with_rows Desk new t = record t { desk = new }
-with_rows Labs new t = record t { labs = new }
-with_rows Persons new t = record t { persons = new }
-with_rows Sessions new t = record t { sessions = new }
-with_rows Forms new t = record t { forms = new }
-with_rows Fields new t = record t { fields = new }
-with_rows Choices new t = record t { choices = new }
-with_rows Records new t = record t { records = new }
-with_rows Versions new t = record t { versions = new }
-with_rows Entries new t = record t { entries = new }
-with_rows Signatures new t = record t { signatures = new }
-with_rows Trail new t = record t { trail = new }
-
 -- ---- what follows, for every schema
 
 -- how a schema keeps each table: its columns, and for which row they stand
@@ -126,42 +106,10 @@ from_by layout k row = (layout k).make (id_in (column row 0)) (cells_at (layout 
 abbrev pub tables_by : Layout → Trees → Tables
 tables_by layout trees = made_of (λ k. map (from_by layout k) (trees (layout k).sheet.tree))
 
--- and each table's rows in its own tree
-abbrev rows_at : Layout → Tables → ℕ → List Name → List Row
-rows_at layout t tree [] = []
-rows_at layout t tree (k ∷ others) =
-    if tree == (layout k).sheet.tree then map (row_by layout k) (rows k t)
-    else rows_at layout t tree others
-
-abbrev pub trees_by : Layout → Tables → Trees
-trees_by layout t tree = rows_at layout t tree names
-
 -- ---- and for the schema of today
-
-abbrev pub table_in : Name → Table
-table_in k = table_of (kept k).sheet
-
-abbrev pub tree_of : Name → ℕ
-tree_of k = (kept k).sheet.tree
 
 abbrev pub id_of : (k : Name) → RowOf k → ℤ
 id_of k = (kept k).id
 
--- a row's columns behind its id
-abbrev pub values_of : (k : Name) → RowOf k → Row
-values_of k one = row_of (kept k).sheet.columns ((kept k).cells one)
-
-abbrev pub stored_row : (k : Name) → RowOf k → Row
-stored_row = row_by kept
-
-abbrev pub read_row : (k : Name) → Row → RowOf k
-read_row = from_by kept
-
 abbrev pub tables_in : Trees → Tables
 tables_in = tables_by kept
-
-abbrev pub trees_of : Tables → Trees
-trees_of = trees_by kept
-
-abbrev pub put : (k : Name) → RowOf k → Tables → Tables
-put k one t = with_rows k (insert_by (id_of k) (rows k t) one) t

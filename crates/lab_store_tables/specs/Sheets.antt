@@ -1,7 +1,6 @@
 -- A table as a list of columns, and what follows from it: the texts of CREATE and of INSERT, the table in
 -- the schema, and a row as it is written and read (ISO/IEC 9075-2, table definitions).
-use Rattle.std.specs.Prelude.{ℕ, ℤ, ◌+◌, ◌/◌, ◌%◌, Bool, true, false, not, ◌&&◌, ◌==◌, List, [], ◌∷◌, ◌++◌, map, length, filter, Option, Some, None, bytes_eq, nat_lt, codes, if◌then◌else◌}
-use Rattle.std.specs.List.{list_any}
+use Rattle.std.specs.Prelude.{ℕ, ℤ, ◌+◌, Bool, true, false, List, [], ◌∷◌, map, Option, Some, None, bytes_eq, codes, if◌then◌else◌}
 use Rattle.sqlite_value.specs.declared.keys.Collation.TheVariants.{Binary}
 use Rattle.sqlite_value.specs.declared.keys.Order.{Order}
 use Rattle.sqlite_value.specs.Keys.{plain}
@@ -14,7 +13,6 @@ use Rattle.sqlite_schema.specs.declared.schema.Action.TheVariants.{NoAction}
 use Rattle.sqlite_schema.specs.declared.schema.Column.{Column}
 use Rattle.sqlite_schema.specs.declared.schema.Reference.{Reference}
 use Rattle.sqlite_schema.specs.declared.schema.Table.{Table}
-use Rattle.sqlite_sql.specs.Term.{Term, lit, col}
 use Rattle.sqlite_rules.specs.Edit.{id_in}
 use Rattle.lab_store_tables.specs.Values.{number, flag, optional, number_in, flag_in, optional_in}
 
@@ -67,13 +65,6 @@ stored_kind Number = kinds.Integer
 stored_kind Flag = kinds.Integer
 stored_kind Words = kinds.Text
 stored_kind Octets = kinds.Blob
-
-abbrev pub kind_word : Kind → List ℕ
-kind_word Id = codes "INTEGER"
-kind_word Number = codes "INTEGER"
-kind_word Flag = codes "INTEGER"
-kind_word Words = codes "TEXT"
-kind_word Octets = codes "BLOB"
 
 -- ---- columns and tables
 
@@ -172,64 +163,3 @@ table_of sheet =
     (map (map (place_from 2 (names sheet.columns))) sheet.uniques) (arrows 2 sheet.columns)
 
 -- ---- texts
-
-abbrev pub joined : List ℕ → List (List ℕ) → List ℕ
-joined between [] = []
-joined between (one ∷ []) = one
-joined between (one ∷ other ∷ others) = one ++ between ++ joined between (other ∷ others)
-
-abbrev comma : List ℕ
-comma = codes ", "
-
-abbrev leads_text : Option (List ℕ) → List ℕ
-leads_text None = []
-leads_text (Some parent) = codes " REFERENCES " ++ parent ++ codes " (id)"
-
-abbrev is_among : List (List ℕ) → List ℕ → Bool
-is_among keys name = list_any (bytes_eq name) keys
-
-abbrev is_single : List (List ℕ) → Bool
-is_single key = length key == 1
-
--- a key of one column stands beside it, and every other behind the columns
-abbrev unique_beside : List (List (List ℕ)) → List ℕ → List ℕ
-unique_beside keys name =
-    if list_any (λ key. is_single key && is_among key name) keys then codes " UNIQUE" else []
-
-abbrev column_text : List (List (List ℕ)) → Described → List ℕ
-column_text keys one =
-    one.name ++ codes " " ++ kind_word one.kind ++ (if one.needed then codes " NOT NULL" else [])
-    ++ unique_beside keys one.name ++ leads_text one.leads
-
-abbrev unique_text : List (List ℕ) → List ℕ
-unique_text key = codes "UNIQUE (" ++ joined comma key ++ codes ")"
-
-abbrev pub create_text : Sheet → List ℕ
-create_text sheet =
-    codes "CREATE TABLE " ++ sheet.name ++ codes " ("
-    ++ joined comma (codes "id INTEGER PRIMARY KEY" ∷ map (column_text sheet.uniques) sheet.columns
-    ++ map unique_text (filter (λ key. not (is_single key)) sheet.uniques))
-    ++ codes ") STRICT"
-
--- a parameter of a statement, as ?1
-abbrev param : ℕ → List ℕ
-param n =
-    if nat_lt n 10 then 63 ∷ (48 + n) ∷ []
-    else 63 ∷ (48 + n / 10) ∷ (48 + n % 10) ∷ []
-
-abbrev params_from : ℕ → List (List ℕ) → List (List ℕ)
-params_from n [] = []
-params_from n (one ∷ others) = param n ∷ params_from (n + 1) others
-
-abbrev pub insert_text : Sheet → List ℕ
-insert_text sheet =
-    codes "INSERT INTO " ++ sheet.name ++ codes " (" ++ joined comma (names sheet.columns)
-    ++ codes ") VALUES ("
-    ++ joined comma (params_from 1 (names sheet.columns)) ++ codes ")"
-
-abbrev cols_from : ℕ → ℕ → List Described → List Term
-cols_from slot at [] = []
-cols_from slot at (one ∷ others) = col slot at ∷ cols_from slot (at + 1) others
-
-abbrev pub insert_terms : List Described → List Term
-insert_terms columns = lit Null ∷ lit Null ∷ cols_from 0 0 columns

@@ -4,7 +4,8 @@ use Rattle.sqlite_value.specs.declared.value.Value.TheVariants.{Null, Int, Blob 
 use Rattle.sqlite_schema.specs.declared.schema.Kind.TheVariants.{Integer, Text, Blob}
 use Rattle.sqlite_rules.specs.Cast.{cast, cast_all, cast_row}
 use Rattle.lab_store_tables.specs.Values.{number, flag, optional}
-use Rattle.lab_store_tables.specs.Family.{Name, RowOf, kept, id_of, stored_row, table_in}
+use Rattle.lab_store_tables.specs.Family.{Name, RowOf, kept, id_of}
+use Rattle.lab_store_tables.proofs.FamilyWords.{stored_row, table_in}
 use Rattle.lab_store_tables.specs.Sheets.{Kind, Id, Number, Flag, Words as InWords, Octets, Held, HeldIn, write, write_in, stored_kind, Described, Sheet, Cells, row_of, column_in, table_of}
 use Rattle.lab_store_write.proofs.Writes.{cast_int, cast_null}
 

@@ -14,8 +14,9 @@ use Rattle.sqlite.specs.Listing.{understood}
 use Rattle.sqlite.specs.State.{State, Executes}
 use Rattle.sqlite.proofs.Callers.{IsPlain, command_of}
 use Rattle.lab_store_tables.specs.Schema.{lab_schema}
-use Rattle.lab_store_tables.specs.Sheets.{insert_text, insert_terms}
-use Rattle.lab_store_tables.specs.Family.{Name, Desk, RowOf, kept, table_in, id_of, values_of, stored_row, rows, tables_in, put, Labs, Persons, Sessions, Forms, Fields, Choices, Records, Versions, Entries, Signatures, Trail}
+use Rattle.lab_store_tables.proofs.SheetWords.{insert_text, insert_terms}
+use Rattle.lab_store_tables.specs.Family.{Name, Desk, RowOf, kept, id_of, rows, tables_in, Labs, Persons, Sessions, Forms, Fields, Choices, Records, Versions, Entries, Signatures, Trail}
+use Rattle.lab_store_tables.proofs.FamilyWords.{table_in, values_of, stored_row, put}
 use Rattle.lab_store_tables.specs.Held.{IsTyped}
 use Rattle.lab_store_laws.proofs.Tables.{stored_with, rising_with, held_if_stored}
 use Rattle.lab_store_write.proofs.Columns.{cast_new}

@@ -7,7 +7,8 @@ use Rattle.sqlite_sql.specs.Term.{Term, col}
 use Rattle.sqlite_tied.specs.Compute.{everything}
 use Rattle.sqlite.specs.Listing.{understood}
 use Rattle.sqlite.specs.State.{State, Shown}
-use Rattle.lab_store_tables.specs.Rows.{PersonRow, tables_in, person_row, person_id}
+use Rattle.lab_store_tables.specs.Rows.{PersonRow, tables_in, person_id}
+use Rattle.lab_store_tables.proofs.RowWords.{person_row}
 use Rattle.lab_store_tables.specs.Changes.{is_person, person_named, IsNamedIfAny}
 use Rattle.lab_store_tables.specs.Held.{IsTyped}
 use Rattle.lab_store_tables.specs.Family.{Persons}

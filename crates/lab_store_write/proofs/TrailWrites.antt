@@ -6,7 +6,8 @@ use Rattle.sqlite.specs.State.{State, Executes}
 use Rattle.lab_store_tables.specs.Rows.{TrailRow, trail_id, tables_in}
 use Rattle.lab_store_tables.specs.Changes.{put_told}
 use Rattle.lab_store_tables.specs.Held.{IsTyped}
-use Rattle.lab_store_tables.specs.Family.{Trail, values_of}
+use Rattle.lab_store_tables.specs.Family.{Trail}
+use Rattle.lab_store_tables.proofs.FamilyWords.{values_of}
 use Rattle.lab_store_write.proofs.Inserts.{adds}
 use Rattle.lab_store_write.proofs.Inside.{Wrote}
 

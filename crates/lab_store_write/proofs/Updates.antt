@@ -32,7 +32,8 @@ use Rattle.sqlite.proofs.Callers.{IsPlain, command_of}
 use Rattle.lab_store_tables.specs.Schema.{lab_schema}
 use Rattle.lab_store_tables.specs.RowRecords.{Tables}
 use Rattle.lab_store_tables.specs.Sheets.{names}
-use Rattle.lab_store_tables.specs.Family.{Name, RowOf, kept, table_in, tree_of, id_of, stored_row, rows, with_rows, tables_in}
+use Rattle.lab_store_tables.specs.Family.{Name, RowOf, kept, id_of, rows, tables_in}
+use Rattle.lab_store_tables.proofs.FamilyWords.{table_in, tree_of, stored_row, with_rows}
 use Rattle.lab_store_tables.specs.Held.{IsTyped}
 use Rattle.lab_store_laws.proofs.Tables.{stored_with, rising_with, held_if_stored}
 use Rattle.lab_store_read.proofs.Texts.{is_param}

@@ -15,7 +15,8 @@ use Rattle.sqlite.specs.State.{State, Executes, ExecutesInside}
 use Rattle.sqlite.proofs.Callers.{IsPlain, command_of}
 use Rattle.lab_records_kept.specs.declared.labs.Lab.{Lab}
 use Rattle.lab_store_tables.specs.Schema.{lab_schema, labs}
-use Rattle.lab_store_tables.specs.Rows.{lab_row, lab_id, tables_in, number}
+use Rattle.lab_store_tables.specs.Rows.{lab_id, tables_in, number}
+use Rattle.lab_store_tables.proofs.RowWords.{lab_row}
 use Rattle.lab_store_tables.specs.Held.{IsTyped}
 use Rattle.lab_store_tables.specs.Changes.{IsFree}
 use Rattle.lab_store_tables.specs.Placing.{lab_row_of, put_lab}

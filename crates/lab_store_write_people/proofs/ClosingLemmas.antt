@@ -21,7 +21,8 @@ use Rattle.sqlite.specs.Listing.{understood}
 use Rattle.sqlite.specs.State.{State, Shown}
 use Rattle.lab_people_access.specs.declared.sessions.Closing.{Closing}
 use Rattle.lab_people_access.specs.declared.sessions.Closing.TheVariants.{Nothing, All, Others}
-use Rattle.lab_store_tables.specs.Rows.{SessionRow, Tables, tables_in, session_row, session_id, flag, number}
+use Rattle.lab_store_tables.specs.Rows.{SessionRow, Tables, tables_in, session_id, flag, number}
+use Rattle.lab_store_tables.proofs.RowWords.{session_row}
 use Rattle.lab_store_tables.specs.Changes.{InTurn, person_named}
 use Rattle.lab_store_tables.specs.Held.{IsTyped}
 use Rattle.lab_store_tables.specs.Ready.{tables_of}

@@ -1,3 +1,4 @@
+pub mod PersonWords
 pub mod Added
 pub mod ClosedAlike
 pub mod ClosingLemmas

@@ -15,7 +15,8 @@ use Rattle.lab_store_tables.specs.Family.{Persons}
 use Rattle.lab_store_write.specs.declared.statements.RowId.{RowId}
 use Rattle.lab_store_write.specs.Calls.{Steps, Finds, MadeFrom}
 use Rattle.lab_store_write.specs.Ids.{row_id}
-use Rattle.lab_store_write_people.specs.Persons.{password_cells, ask_cells, person_given, with_person}
+use Rattle.lab_store_write_people.specs.Persons.{password_cells, ask_cells, with_person}
+use Rattle.lab_store_write_people.proofs.PersonWords.{person_given}
 use Rattle.lab_store_write_people.proofs.PersonWrites.{person_values}
 
 pub given_is : (lab id : ℤ) (asker : Option RowId) (person : Person)

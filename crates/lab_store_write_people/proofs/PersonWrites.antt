@@ -12,7 +12,8 @@ use Rattle.lab_store_tables.specs.Rows.{PersonRow, person_id, tables_in}
 use Rattle.lab_store_tables.specs.Changes.{put_person, set_person}
 use Rattle.lab_store_tables.specs.Held.{IsTyped}
 use Rattle.lab_store_tables.specs.Sheets.{names}
-use Rattle.lab_store_tables.specs.Family.{Persons, kept, values_of}
+use Rattle.lab_store_tables.specs.Family.{Persons, kept}
+use Rattle.lab_store_tables.proofs.FamilyWords.{values_of}
 use Rattle.lab_store_write.proofs.Inserts.{adds}
 use Rattle.lab_store_write.proofs.Updates.{IsUpdate, given, by_id, sets}
 use Rattle.lab_store_write.proofs.Writes.{update_same}

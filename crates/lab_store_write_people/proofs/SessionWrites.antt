@@ -29,10 +29,12 @@ use Rattle.sqlite.specs.Listing.{understood}
 use Rattle.sqlite.specs.State.{State, Executes}
 use Rattle.lab_people_access.specs.declared.sessions.Session.{Session}
 use Rattle.lab_store_tables.specs.Schema.{lab_schema}
-use Rattle.lab_store_tables.specs.Rows.{SessionRow, Tables, session_row, session_id, tables_in, number, flag}
+use Rattle.lab_store_tables.specs.Rows.{SessionRow, Tables, session_id, tables_in, number, flag}
+use Rattle.lab_store_tables.proofs.RowWords.{session_row}
 use Rattle.lab_store_tables.specs.Changes.{is_session, put_session, session_row_of}
 use Rattle.lab_store_tables.specs.Held.{IsTyped}
-use Rattle.lab_store_tables.specs.Family.{Sessions, values_of}
+use Rattle.lab_store_tables.specs.Family.{Sessions}
+use Rattle.lab_store_tables.proofs.FamilyWords.{values_of}
 use Rattle.lab_store_laws.proofs.LabLaws.{same_id}
 use Rattle.lab_store_laws.proofs.RowSet.{map_alike}
 use Rattle.lab_store_read.proofs.Texts.{is_param}

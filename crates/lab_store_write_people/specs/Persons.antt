@@ -1,16 +1,13 @@
 -- What the columns of a person's password and asked one-time word are made of.
-use Rattle.std.specs.Prelude.{ℕ, ℤ, List, [], ◌∷◌, Option, Some, None, option_map}
-use Rattle.sqlite_value.specs.declared.value.Value.TheVariants.{Int, Text, Blob}
-use Rattle.sqlite_value.specs.Order.{Row}
+use Rattle.std.specs.Prelude.{ℕ, ℤ, List, Option, Some, None}
 use Rattle.sqlite_keyed.specs.Keyed.{next_key}
 use Rattle.lab_seal_hashes.specs.declared.verifiers.VerifierParts.{VerifierParts}
 use Rattle.lab_people_access.specs.declared.passwords.Password.{Password}
 use Rattle.lab_people_access.specs.declared.passwords.Password.TheVariants.{Unset, Chosen, OneTime}
 use Rattle.lab_people_access.specs.declared.persons.Ask.{Ask}
 use Rattle.lab_people_access.specs.declared.persons.Person.{Person}
-use Rattle.lab_store_tables.specs.Rows.{Tables, person_id, number, flag, optional}
+use Rattle.lab_store_tables.specs.Rows.{Tables, person_id}
 use Rattle.lab_store_tables.specs.Changes.{put_person, person_row_of}
-use Rattle.lab_store_write.specs.Ids.{row_id}
 use Rattle.lab_store_write.specs.declared.statements.RowId.{RowId}
 use Rattle.lab_store_write_people.specs.declared.passwords.PasswordCells.{PasswordCells}
 use Rattle.lab_store_write_people.specs.declared.passwords.AskCells.{AskCells}
@@ -50,22 +47,6 @@ ask_cells asker (Some ask) = record {
 -- who asked, where somebody did
 abbrev pub asker_in : Ask → List ℕ
 asker_in ask = ask.asker
-
--- the columns of a person's row but its ids, of what they are made of
-abbrev pub person_given : ℤ → Person → ℕ → PasswordCells → AskCells → Row
-person_given lab person roles password ask =
-    Int lab ∷ Text person.code ∷ Text person.name ∷ number roles ∷ flag person.retired
-    ∷ number person.failures ∷ optional number person.locked ∷ number password.kind
-    ∷ optional Blob (option_map salt_in password.first)
-    ∷ optional number (option_map rounds_in password.first)
-    ∷ optional Blob (option_map made_in password.first)
-    ∷ optional Blob (option_map salt_in password.second)
-    ∷ optional number (option_map rounds_in password.second)
-    ∷ optional Blob (option_map made_in password.second) ∷ optional number password.changed
-    ∷ optional Int (option_map row_id ask.asker) ∷ optional number ask.asked
-    ∷ optional Blob (option_map salt_in ask.first)
-    ∷ optional number (option_map rounds_in ask.first)
-    ∷ optional Blob (option_map made_in ask.first) ∷ []
 
 -- tables with a person more, under the next id
 abbrev pub with_person : ℤ → Option ℤ → Person → Tables → Tables

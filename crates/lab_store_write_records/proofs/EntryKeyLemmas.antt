@@ -8,7 +8,8 @@ use Rattle.sqlite_sql.specs.Term.{Term, col}
 use Rattle.sqlite_tied.specs.Compute.{everything}
 use Rattle.sqlite.specs.Listing.{understood}
 use Rattle.sqlite.specs.State.{State, Shown}
-use Rattle.lab_store_tables.specs.Rows.{RecordRow, EntryRow, SignatureRow, Tables, tables_in, record_row, record_id, entry_row, entry_id, signature_row, signature_id, number}
+use Rattle.lab_store_tables.specs.Rows.{RecordRow, EntryRow, SignatureRow, Tables, tables_in, record_id, entry_id, signature_id, number}
+use Rattle.lab_store_tables.proofs.RowWords.{record_row, entry_row, signature_row}
 use Rattle.lab_store_tables.specs.Changes.{is_record_row, record_named}
 use Rattle.lab_store_tables.specs.Held.{IsTyped}
 use Rattle.lab_store_tables.specs.Family.{Records, Entries, Signatures}
@@ -17,7 +18,8 @@ use Rattle.lab_store_read.proofs.Sorted.{equal_ints, equal_numbers, and_true}
 use Rattle.lab_store_write.specs.Calls.{Steps, Finds}
 use Rattle.lab_store_write.proofs.Inside.{steps_weaker}
 use Rattle.lab_store_write.proofs.Lookups.{by_key_query, rows_by_key}
-use Rattle.lab_store_write_records.specs.VersionsShown.{records_shown, is_entry_of, is_signature_of, entries_shown, signatures_shown, record_read, record_pair}
+use Rattle.lab_store_write_records.specs.VersionsShown.{records_shown, is_entry_of, is_signature_of, record_read, record_pair}
+use Rattle.lab_store_write_records.proofs.VersionsShownWords.{entries_shown, signatures_shown}
 
 -- ---- a record, with its current version
 

@@ -6,7 +6,8 @@ use Rattle.sqlite.specs.State.{State, Executes}
 use Rattle.lab_store_tables.specs.Rows.{EntryRow, entry_id, SignatureRow, signature_id, tables_in}
 use Rattle.lab_store_tables.specs.Changes.{put_entry, put_signature}
 use Rattle.lab_store_tables.specs.Held.{IsTyped}
-use Rattle.lab_store_tables.specs.Family.{Entries, Signatures, values_of}
+use Rattle.lab_store_tables.specs.Family.{Entries, Signatures}
+use Rattle.lab_store_tables.proofs.FamilyWords.{values_of}
 use Rattle.lab_store_write.proofs.Inserts.{adds}
 use Rattle.lab_store_write.proofs.Inside.{Wrote}
 

@@ -7,13 +7,15 @@ use Rattle.sqlite_sql.specs.Term.{col}
 use Rattle.sqlite_tied.specs.Compute.{everything}
 use Rattle.sqlite.specs.Listing.{understood}
 use Rattle.sqlite.specs.State.{State, Shown}
-use Rattle.lab_store_tables.specs.Rows.{FieldRow, ChoiceRow, tables_in, field_row, field_id, choice_row, choice_id}
+use Rattle.lab_store_tables.specs.Rows.{FieldRow, ChoiceRow, tables_in, field_id, choice_id}
+use Rattle.lab_store_tables.proofs.RowWords.{field_row, choice_row}
 use Rattle.lab_store_tables.specs.Held.{IsTyped}
 use Rattle.lab_store_tables.specs.Family.{Fields, Choices}
 use Rattle.lab_store_read.proofs.Texts.{Means, is_param}
 use Rattle.lab_store_read.proofs.Sorted.{equal_ints, and_true}
 use Rattle.lab_store_write.proofs.Lookups.{by_key_query, rows_by_key}
-use Rattle.lab_store_write_records.specs.FieldsShown.{is_field_of, is_choice_of, fields_shown, choices_shown}
+use Rattle.lab_store_write_records.specs.FieldsShown.{is_field_of, is_choice_of}
+use Rattle.lab_store_write_records.proofs.FieldsShownWords.{fields_shown, choices_shown}
 
 -- ---- the place behind the fields of one parent
 

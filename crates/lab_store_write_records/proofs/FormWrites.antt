@@ -6,7 +6,8 @@ use Rattle.sqlite.specs.State.{State, Executes}
 use Rattle.lab_store_tables.specs.Rows.{FormRow, form_id, FieldRow, field_id, ChoiceRow, choice_id, tables_in}
 use Rattle.lab_store_tables.specs.Changes.{put_form, put_field, put_choice}
 use Rattle.lab_store_tables.specs.Held.{IsTyped}
-use Rattle.lab_store_tables.specs.Family.{Forms, Fields, Choices, values_of}
+use Rattle.lab_store_tables.specs.Family.{Forms, Fields, Choices}
+use Rattle.lab_store_tables.proofs.FamilyWords.{values_of}
 use Rattle.lab_store_write.proofs.Inserts.{adds, ids}
 use Rattle.lab_store_write.proofs.Inside.{Wrote}
 

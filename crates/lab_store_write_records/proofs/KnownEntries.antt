@@ -9,7 +9,8 @@ use Rattle.lab_seal_versions.specs.declared.rows.EntryRow.{EntryRow as Entry}
 use Rattle.lab_records_kept.specs.declared.records.Signature.{Signature}
 use Rattle.lab_store_tables.proofs.KnownFile.{filled, file, entry, signature}
 use Rattle.lab_store_write_records.specs.EntriesAdded.{with_entry, with_signature}
-use Rattle.lab_store_write_records.specs.VersionsShown.{records_shown, current_of, version_in_record, versions_shown, entries_shown, signatures_shown, record_read}
+use Rattle.lab_store_write_records.specs.VersionsShown.{records_shown, current_of, version_in_record, versions_shown, record_read}
+use Rattle.lab_store_write_records.proofs.VersionsShownWords.{entries_shown, signatures_shown}
 
 -- a row that shows an id
 abbrev shown : ℤ → Row

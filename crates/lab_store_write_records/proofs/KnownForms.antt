@@ -9,7 +9,7 @@ use Rattle.lab_forms.specs.declared.kinds.Kind.TheVariants.{YesNo}
 use Rattle.lab_records_kept.specs.declared.records.FormVersion.{FormVersion}
 use Rattle.lab_store_tables.proofs.KnownFile.{file, plainly, form, field, choice}
 use Rattle.lab_store_write_records.specs.FormsAdded.{with_choice, with_field, with_form}
-use Rattle.lab_store_write_records.specs.FieldsShown.{fields_shown, choices_shown}
+use Rattle.lab_store_write_records.proofs.FieldsShownWords.{fields_shown, choices_shown}
 
 -- a row that shows an id
 abbrev shown : ℤ → Row

@@ -1,3 +1,5 @@
+pub mod FieldsShownWords
+pub mod VersionsShownWords
 pub mod Added
 pub mod EntryKeyLemmas
 pub mod EntryWrites

@@ -7,7 +7,8 @@ use Rattle.sqlite_sql.specs.Term.{Term, col}
 use Rattle.sqlite_tied.specs.Compute.{everything}
 use Rattle.sqlite.specs.Listing.{understood}
 use Rattle.sqlite.specs.State.{State, Shown}
-use Rattle.lab_store_tables.specs.Rows.{FormRow, tables_in, form_row, form_id, number}
+use Rattle.lab_store_tables.specs.Rows.{FormRow, tables_in, form_id, number}
+use Rattle.lab_store_tables.proofs.RowWords.{form_row}
 use Rattle.lab_store_tables.specs.Changes.{is_form_row, form_named}
 use Rattle.lab_store_tables.specs.Held.{IsTyped}
 use Rattle.lab_store_tables.specs.Family.{Forms}

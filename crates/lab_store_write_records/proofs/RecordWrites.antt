@@ -9,7 +9,8 @@ use Rattle.sqlite.specs.State.{State, Executes}
 use Rattle.lab_store_tables.specs.Rows.{RecordRow, record_id, VersionRow, version_id, tables_in, number}
 use Rattle.lab_store_tables.specs.Changes.{put_record, put_version, set_current}
 use Rattle.lab_store_tables.specs.Held.{IsTyped}
-use Rattle.lab_store_tables.specs.Family.{Records, Versions, values_of}
+use Rattle.lab_store_tables.specs.Family.{Records, Versions}
+use Rattle.lab_store_tables.proofs.FamilyWords.{values_of}
 use Rattle.lab_store_write.proofs.Inserts.{adds, ids}
 use Rattle.lab_store_write.proofs.Updates.{IsUpdate, given, by_id, sets}
 use Rattle.lab_store_write.proofs.Inside.{Wrote}

@@ -26,7 +26,8 @@ use Rattle.sqlite.specs.Listing.{understood}
 use Rattle.sqlite.specs.State.{State, Shown}
 use Rattle.sqlite.proofs.Callers.{reads_as}
 use Rattle.lab_store_tables.specs.Schema.{lab_schema}
-use Rattle.lab_store_tables.specs.Rows.{RecordRow, VersionRow, Tables, tables_in, record_row, record_id, version_row, version_id, number}
+use Rattle.lab_store_tables.specs.Rows.{RecordRow, VersionRow, Tables, tables_in, record_id, version_id, number}
+use Rattle.lab_store_tables.proofs.RowWords.{record_row, version_row}
 use Rattle.lab_store_tables.specs.Changes.{is_record_row, is_version_row, version_named}
 use Rattle.lab_store_tables.specs.Held.{IsTyped}
 use Rattle.lab_store_tables.specs.Family.{Records, Versions}

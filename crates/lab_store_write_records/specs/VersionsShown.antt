@@ -45,14 +45,6 @@ is_entry_of version one = int_eq one.version version
 abbrev pub is_signature_of : ℤ → SignatureRow → Bool
 is_signature_of version one = int_eq one.version version
 
-abbrev pub entries_shown : ℤ → Tables → List Row
-entries_shown version t =
-    map (λ (one : EntryRow). Int one.id ∷ []) (filter (is_entry_of version) t.entries)
-
-abbrev pub signatures_shown : ℤ → Tables → List Row
-signatures_shown version t =
-    map (λ (one : SignatureRow). Int one.id ∷ []) (filter (is_signature_of version) t.signatures)
-
 -- ---- what is read of a row
 
 abbrev pub record_read : Row → ℤ × ℕ

@@ -4,7 +4,7 @@ use Rattle.std.specs.List.{list_any}
 use Rattle.lab_wire.specs.declared.route_refusals.Allowed.{Allowed}
 use Rattle.lab_wire.specs.declared.route_refusals.Allowed.TheVariants.{Get, Post, GetOrPost}
 use Rattle.lab_wire.specs.declared.route_refusals.RouteRefusal.{RouteRefusal}
-use Rattle.lab_wire.specs.declared.route_refusals.RouteRefusal.TheVariants.{NoRoute, Method}
+use Rattle.lab_wire.specs.declared.route_refusals.RouteRefusal.TheVariants.{Method}
 use Rattle.lab_wire.specs.declared.routes.Route.{Route}
 use Rattle.lab_wire.specs.declared.routes.Place.{Place as PlaceOfCode}
 use Rattle.lab_wire.specs.Paths.{segments}
@@ -78,8 +78,3 @@ allowed_at p = allowed_by p.get p.post
 abbrev pub route_or_methods : Option Route → Allowed → Result Route RouteRefusal
 route_or_methods None methods = Err (Method methods)
 route_or_methods (Some route) methods = Ok route
-
--- what the place has for a method
-abbrev pub route_in : List ℕ → Option Place → Result Route RouteRefusal
-route_in method None = Err NoRoute
-route_in method (Some p) = route_or_methods (asked_by method p) (allowed_at p)

@@ -2,7 +2,8 @@
 use Rattle.std.proofs.Common.{ap, ◌∙◌}
 use Rattle.std.specs.Prelude.{option_map}
 use Rattle.csv.specs.Reading.{strip_bom}
-use Rattle.lab_copy.specs.Fronts.{front, front_of}
+use Rattle.lab_copy.specs.Fronts.{front}
+use Rattle.lab_copy.proofs.FrontWords.{front_of}
 use Rattle.lab_copy.proofs.FrontLemmas.{answers_whole, rows_whole}
 use Rattle.lab_copy.proofs.checks.check_asking.Goals as goal
 

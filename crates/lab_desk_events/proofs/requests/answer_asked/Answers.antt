@@ -12,7 +12,8 @@ use Rattle.lab_records_machine.specs.Machine.{step}
 use Rattle.lab_records_outcomes.specs.Deciding.{decided}
 use Rattle.lab_wire.specs.declared.replies.Answer.TheVariants.{Replied}
 use Rattle.lab_wire.specs.Replies.{reply_text}
-use Rattle.lab_desk_events.specs.Requests.{Builds, Steps}
+use Rattle.lab_desk_events.specs.Requests.{Steps}
+use Rattle.lab_desk_events.proofs.RequestWords.{Builds}
 use Rattle.lab_desk_events.proofs.Deciding.{brings, brings_none, builds, none_there, idle_none, none_changed, none_stepped, ends_on, fits_there, made_steps, on_ok, on_ok_all, either}
 use Rattle.lab_desk_events.proofs.requests.answer_asked.Given.{Over}
 use Rattle.lab_desk_events.proofs.requests.answer_asked.Goals.{After-answer_on}

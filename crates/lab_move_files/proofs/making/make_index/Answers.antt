@@ -1,5 +1,5 @@
 use Rattle.std.proofs.Common.{refl}
-use Rattle.lab_store_tables.specs.Schema.{sessions_of_person_text}
+use Rattle.lab_store_tables.proofs.SchemaWords.{sessions_of_person_text}
 use Rattle.lab_move_files.proofs.MadeTables.{index_makes_all}
 use Rattle.lab_move_files.proofs.making.make_index.Goals as goal
 

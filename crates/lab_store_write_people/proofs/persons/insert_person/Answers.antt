@@ -6,7 +6,8 @@ use Rattle.lab_store_tables.specs.Rows.{person_id}
 use Rattle.lab_store_tables.specs.Changes.{person_row_of}
 use Rattle.lab_store_tables.specs.Ready.{tables_of}
 use Rattle.lab_store_write.specs.Ids.{row_id}
-use Rattle.lab_store_write_people.specs.Persons.{person_given, with_person}
+use Rattle.lab_store_write_people.specs.Persons.{with_person}
+use Rattle.lab_store_write_people.proofs.PersonWords.{person_given}
 use Rattle.lab_store_write.proofs.Writers.{wrote}
 use Rattle.lab_store_write_people.proofs.PersonLemmas.{given_is}
 use Rattle.lab_store_write_people.proofs.PersonWrites.{add_person_text, person_values, adds_person}

@@ -4,7 +4,7 @@ use Rattle.sqlite_value.specs.Order.{Row}
 use Rattle.sqlite.specs.Values.{bound}
 use Rattle.lab_store_tables.specs.Changes.{person_row_of, set_person}
 use Rattle.lab_store_write.specs.Ids.{row_id}
-use Rattle.lab_store_write_people.specs.Persons.{person_given}
+use Rattle.lab_store_write_people.proofs.PersonWords.{person_given}
 use Rattle.lab_store_write.proofs.Writers.{wrote}
 use Rattle.lab_store_write_people.proofs.PersonLemmas.{given_is}
 use Rattle.lab_store_write_people.proofs.PersonWrites.{set_person_text, person_values, sets_person}

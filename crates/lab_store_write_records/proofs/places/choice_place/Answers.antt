@@ -3,7 +3,8 @@ use Rattle.std.proofs.lemmas.List.{length-map}
 use Rattle.sqlite_value.specs.declared.value.Value.TheVariants.{Int}
 use Rattle.lab_store_tables.specs.Rows.{ChoiceRow, Tables}
 use Rattle.lab_store_write.proofs.Writers.{place_found}
-use Rattle.lab_store_write_records.specs.FieldsShown.{is_choice_of, choices_shown}
+use Rattle.lab_store_write_records.specs.FieldsShown.{is_choice_of}
+use Rattle.lab_store_write_records.proofs.FieldsShownWords.{choices_shown}
 use Rattle.lab_store_write_records.proofs.FormKeyLemmas.{choices_means, choices_read}
 use Rattle.lab_store_write_records.proofs.places.choice_place.Goals as goal
 

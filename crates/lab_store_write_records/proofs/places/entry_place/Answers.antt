@@ -3,7 +3,8 @@ use Rattle.std.proofs.lemmas.List.{length-map}
 use Rattle.sqlite_value.specs.declared.value.Value.TheVariants.{Int}
 use Rattle.lab_store_tables.specs.Rows.{EntryRow, Tables}
 use Rattle.lab_store_write.proofs.Writers.{place_found}
-use Rattle.lab_store_write_records.specs.VersionsShown.{is_entry_of, entries_shown}
+use Rattle.lab_store_write_records.specs.VersionsShown.{is_entry_of}
+use Rattle.lab_store_write_records.proofs.VersionsShownWords.{entries_shown}
 use Rattle.lab_store_write_records.proofs.EntryKeyLemmas.{entries_means, entries_read}
 use Rattle.lab_store_write_records.proofs.places.entry_place.Goals as goal
 

@@ -3,7 +3,8 @@ use Rattle.std.proofs.lemmas.List.{length-map}
 use Rattle.sqlite_value.specs.declared.value.Value.TheVariants.{Int}
 use Rattle.lab_store_tables.specs.Rows.{FieldRow, Tables}
 use Rattle.lab_store_write.proofs.Writers.{place_found}
-use Rattle.lab_store_write_records.specs.FieldsShown.{is_field_of, fields_shown}
+use Rattle.lab_store_write_records.specs.FieldsShown.{is_field_of}
+use Rattle.lab_store_write_records.proofs.FieldsShownWords.{fields_shown}
 use Rattle.lab_store_write_records.proofs.FormKeyLemmas.{fields_means, fields_read}
 use Rattle.lab_store_write_records.proofs.places.field_place.Goals as goal
 

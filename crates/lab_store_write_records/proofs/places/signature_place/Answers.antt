@@ -3,7 +3,8 @@ use Rattle.std.proofs.lemmas.List.{length-map}
 use Rattle.sqlite_value.specs.declared.value.Value.TheVariants.{Int}
 use Rattle.lab_store_tables.specs.Rows.{SignatureRow, Tables}
 use Rattle.lab_store_write.proofs.Writers.{place_found}
-use Rattle.lab_store_write_records.specs.VersionsShown.{is_signature_of, signatures_shown}
+use Rattle.lab_store_write_records.specs.VersionsShown.{is_signature_of}
+use Rattle.lab_store_write_records.proofs.VersionsShownWords.{signatures_shown}
 use Rattle.lab_store_write_records.proofs.EntryKeyLemmas.{signatures_means, signatures_read}
 use Rattle.lab_store_write_records.proofs.places.signature_place.Goals as goal
 

@@ -4,7 +4,7 @@ use Rattle.lab_records_kept.specs.declared.labs.Lab.{Lab}
 use Rattle.lab_records_kept.specs.declared.changes.Change.{Change}
 use Rattle.lab_records_keeper.specs.Worlds.{Changes}
 use Rattle.lab_records_memory.specs.Lists.{lab_of, ChangesInPlace}
-use Rattle.lab_records_memory.specs.ListLaws.{nothing_moved}
+use Rattle.lab_records_memory.proofs.ListLawsWords.{nothing_moved}
 use Rattle.lab_records_memory.proofs.Listing.{left_as, on_any}
 use Rattle.lab_records_memory.proofs.lists.ListsKeeper.apply.Goals as goal
 

@@ -1,6 +1,6 @@
 use Rattle.std.proofs.Common.{ap, ◌∙◌, sym}
 use Rattle.lab_wire.specs.Paths.{place_in}
-use Rattle.lab_wire.specs.Places.{route_in}
+use Rattle.lab_wire.proofs.PlaceWords.{route_in}
 use Rattle.lab_wire.proofs.PlaceLemmas.{place_begins}
 use Rattle.lab_wire.proofs.PlaceLaws.{route_is}
 use Rattle.lab_wire.proofs.routes.Routes.route_of.Goals as goal
