@@ -1,6 +1,6 @@
 -- Words of proofs alone, beside the definitions of specs/Fronts.antt: no clause names them.
 use Rattle.std.specs.Prelude.{ℕ, List}
-use Rattle.lab_copy.specs.Fronts.{text_begun}
+use Rattle.lab_copy.specs.Fronts.{front, text_begun}
 
 -- how much is read of a copy
 abbrev pub front_of : List ℕ → List ℕ
