@@ -1,11 +1,13 @@
 # Runs ./check of the current folder, with its output in the file that is named, and prints what each crate cost. Twice a second it
 # looks at which processes of the prover there are, for which crate and with how much processor time so far. Where a second file is named
-# and all has passed, what each crate cost is put into that one, which is a tree's tools/seconds.
+# and all has passed, what each crate cost is put into that one, which is a tree's tools/seconds. rt keeps what an earlier run on the machine
+# proved: by the output, a check, the tests or the edits of a crate that weren't all done in this run have the seconds there that they had.
 import collections
 import glob
 import os
 import pathlib
 import platform
+import re
 import resource
 import subprocess
 import sys
@@ -17,6 +19,12 @@ sys.dont_write_bytecode = True
 import costs  # noqa: E402
 
 TICKS = os.sysconf("SC_CLK_TCK")
+# What the output says where the work of that kind was done for a crate, and of how many edits.
+DONE = {
+    "check": re.compile(r"rt: (\w+) proved$", re.M),
+    "tests": re.compile(r"rt: (\w+): its tests are proved$", re.M),
+    "edits": re.compile(r"rt: (\w+): trying its must-fail edits \((\d+)\)$", re.M),
+}
 
 
 def text_of(path):
@@ -103,6 +111,22 @@ def watch(spent, tries, done):
         sample(spent, tries, seen)
 
 
+def edits_of(crate):
+    return len(glob.glob(f"crates/{crate}/must-fail/*.edit"))
+
+
+def has_tests(crate):
+    return any("#[test]" in text_of(path) for path in glob.glob(f"crates/{crate}/src/**/*.rt", recursive=True))
+
+
+def measured(spent, said, crates):
+    """Of each crate the seconds of its check, its tests and its edits; none where the output doesn't say that all of it was done."""
+    done = {(found[1], kind) for kind in ("check", "tests") for found in DONE[kind].finditer(said)}
+    done |= {(found[1], "edits") for found in DONE["edits"].finditer(said) if int(found[2]) == edits_of(found[1])}
+    done |= {(crate, "edits") for crate in crates if edits_of(crate) == 0} | {(crate, "tests") for crate in crates if not has_tests(crate)}
+    return {crate: [spent[crate, kind] if (crate, kind) in done else None for kind in costs.KINDS] for crate in crates}
+
+
 def first_line(*words):
     """The first line of what a command prints, or none."""
     try:
@@ -127,8 +151,8 @@ def main():
         status = subprocess.run(["./check"], stdout=said, stderr=subprocess.STDOUT).returncode
     done.set()
     watcher.join()
-    with open(sys.argv[1]) as said:
-        last = said.read().splitlines()[-1]
+    said = text_of(sys.argv[1])
+    last = said.splitlines()[-1]
     children = resource.getrusage(resource.RUSAGE_CHILDREN)
     used = children.ru_utime + children.ru_stime
     wall = time.time() - began
@@ -136,15 +160,15 @@ def main():
     print(f"{'crate':<24} {'check':>6} {'tests':>6} {'edits':>6}")
     for folder in sorted(glob.glob("crates/*")):
         crate = os.path.basename(folder)
-        edits = len(glob.glob(folder + "/must-fail/*.edit"))
         columns = " ".join(f"{spent[crate, kind]:>6.0f}" for kind in ("check", "tests", "edits"))
-        print(f"{crate:<24} {columns} ({edits})")
+        print(f"{crate:<24} {columns} ({edits_of(crate)})")
     for (crate, edit), seconds in sorted(tries.items()):
         print(f"{crate}/{edit} {seconds:.0f}")
     if status == 0 and sys.argv[2:]:
-        with open("crates.txt") as listed:
-            crates = costs.crates_in(listed.read())
-        costs.written(sys.argv[2], {crate: [spent[crate, kind] for kind in costs.KINDS] for crate in crates}, about())
+        crates = costs.crates_in(text_of("crates.txt"))
+        seconds = measured(spent, said, crates)
+        earlier = sum(None in figures for figures in seconds.values())
+        costs.written(sys.argv[2], seconds, about() + (f"; {earlier} crates have seconds of before, since rt kept their work" if earlier else ""))
     sys.exit(status)
 
 

@@ -5,7 +5,7 @@ import re
 TOP = pathlib.Path(__file__).resolve().parent.parent
 KINDS = ("check", "tests", "edits")
 # A crate's line in tools/seconds, and a bound's. What wasn't measured is a dash.
-LINE = re.compile(r"(\w+) (\d+) (\d+|-) (\d+|-)$")
+LINE = re.compile(r"(\w+) (\d+|-) (\d+|-) (\d+|-)$")
 BOUND = re.compile(r"bound (\w+) (\d+)$")
 
 
@@ -91,8 +91,17 @@ class Costs:
 
 
 def written(path, measured, about):
-    """Puts what was measured into a file of seconds, where its head and its bounds stay; `about` says when and of which tree it is."""
+    """Puts what was measured into a file of seconds, where its head and its bounds stay; `about` says when and of which tree it is. What
+    wasn't measured has the seconds that it had, or a dash."""
     path = pathlib.Path(path)
-    kept = [line for line in path.read_text(encoding="utf-8").splitlines() if not LINE.match(line) and not line.startswith("# Measured")]
-    lines = [f"{crate} " + " ".join(f"{seconds:.0f}" for seconds in measured[crate]) for crate in measured]
+    kept, before = [], {}
+    for line in path.read_text(encoding="utf-8").splitlines():
+        if found := LINE.match(line):
+            before[found[1]] = found.groups()[1:]
+        elif not line.startswith("# Measured"):
+            kept.append(line)
+    lines = []
+    for crate, seconds in measured.items():
+        earlier = before.get(crate, ("-",) * len(KINDS))
+        lines.append(f"{crate} " + " ".join(was if new is None else f"{new:.0f}" for new, was in zip(seconds, earlier)))
     path.write_text("\n".join([*kept, f"# Measured {about}", *lines]) + "\n", encoding="utf-8")
