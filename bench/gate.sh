@@ -12,4 +12,4 @@ git clone -q "$root" "$room/clone"
 cd "$room/clone"
 kept=()
 [ "${1:-}" != --write ] || kept=("$root/tools/seconds")
-python3 "$root/bench/gate.py" "$room/said" "${kept[@]}"
+CHECK_ANEW=yes python3 "$root/bench/gate.py" "$room/said" "${kept[@]}"
