@@ -185,7 +185,8 @@ def homes_lack(tree, line):
 
 # What stands in one document alone; the others link there.
 HOMES = {
-    "how long a session lives": (r"\b900 seconds\b|\b28,800\b", "docs/PERSONS.md"),
+    "how long a session lives": (r"\b900 s(econds)?\b|\b28,800\b|\b15 minutes\b|\b(8|eight) hours\b", "docs/PERSONS.md"),
+    "why `storage` is answered over a file": (r"`HasItsCause`: ", "crates/lab_store_read/README.md"),
     "the order of all refusals": (r"^\| Step \| Number \|.*Skipped for", "docs/COMMANDS.md"),
     "the cause of `storage`": (r"^\| 63 \|", "docs/REFUSALS.md"),
     "the cause of `memory`": (r"^\| 90 \|", "docs/REFUSALS.md"),
@@ -194,7 +195,7 @@ HOMES = {
 
 def rules_stand_elsewhere(top):
     for rule, (pattern, home) in HOMES.items():
-        there = [os.path.relpath(path, top) for path in documents(top) if re.search(pattern, text_of(path), re.M)]
+        there = [os.path.relpath(path, top) for path in documents(top) if re.search(pattern, without_blocks(text_of(path)), re.M)]
         if there != [home]:
             yield f"{rule} stands in {', '.join(there) or 'no document'}, and its home is {home}"
 
