@@ -11,8 +11,8 @@ TIED = {
     "LEAST_OF_PASSWORD": ("PERSONS", r"\*\*A chosen password\*\* has (\d+) to"), "MOST_OF_PASSWORD": ("PERSONS", r"\*\*A chosen password\*\* has \d+ to (\d+) bytes"),
     "GREATEST_NUMBER": ("NAMES", r"are numbered from 1 to ([\d,]+)\."), "AT_ONCE": ("COMMANDS", r"at least `from` and at most (\d+) above it"),
     "MOST_VERSIONS": ("RECORDS", r"(\d+) versions of a record"), "MOST_DIGITS": ("FORMS", r"1 to (\d+) digits"), "MOST_DECIMALS": ("FORMS", r"decimals, 0 to (\d+)"),
-    "MOST_CHOICES": ("FORMS", r"1 to (\d+) different `Name`s"), "IDLE_SECONDS": ("PERSONS", r"no longer than ([\d,]+) seconds after its last request"),
-    "LONGEST_SECONDS": ("PERSONS", r"no longer than ([\d,]+) seconds after its opening"), "MOST_SAMPLES": ("PAGES", r"up to (\d+) samples"),
+    "MOST_CHOICES": ("FORMS", r"1 to (\d+) different `Name`s"), "IDLE_SECONDS": ("PERSONS", r"no longer than ([\d,]+) seconds (?:\([^)]*\) )?after its last request"),
+    "LONGEST_SECONDS": ("PERSONS", r"no longer than ([\d,]+) seconds (?:\([^)]*\) )?after its opening"), "MOST_SAMPLES": ("PAGES", r"up to (\d+) samples"),
     "WARNING_SECONDS": ("PAGES", r"(Two) minutes before the end a warning"),
 }
 PATTERNS = {"LAB_CODE": "LabCode", "PERSON_CODE": "PersonCode", "KEY": "Key"}
