@@ -10,8 +10,8 @@ use Rattle.lab_copy_rows.specs.declared.flaws.Flaw.TheVariants as flaw
 use Rattle.lab_copy_rows.specs.declared.lines.Counts.{Counts}
 use Rattle.lab_copy_rows.specs.declared.lines.Line.{Line}
 use Rattle.lab_copy.specs.Faults.{IsAnswer, IsNoFlaw}
-use Rattle.lab_copy.specs.Checks.{fault_at, most_rows, rows_of}
-use Rattle.lab_copy_lines.specs.Lines.{IsRead, line_at}
+use Rattle.lab_copy.specs.Checks.{fault_at, most_rows, csv_rows_of}
+use Rattle.lab_copy_lines.specs.Lines.{IsRowRead, line_at}
 use Rattle.lab_copy.specs.Kept.{IsAt, IsTaken, edition_by, verdict_kept}
 use Rattle.lab_copy.specs.Left.{AnswersRest, AreRows, IsLeftOf}
 use Rattle.lab_copy.specs.declared.faults.CheckFault.{CheckFault}
@@ -24,7 +24,7 @@ use Rattle.lab_copy.proofs.ReadLemmas.{record_reads, when_known, no_header, bad_
 
 -- a fault that says nothing of a copy
 pub nothing_known : (known : Option (List ℕ)) (fault : CheckFault) → IsNoFlaw fault
-    → IfSome known (λ bytes. IsAnswer (verdict (rows_of bytes)) (Err fault))
+    → IfSome known (λ bytes. IsAnswer (verdict (csv_rows_of bytes)) (Err fault))
 nothing_known known (Flawed _) none = absurd none
 nothing_known None Read none = tt
 nothing_known (Some bytes) Read none = tt
@@ -37,14 +37,14 @@ module _ {R : Type 0} (rem : R → Option (List ℕ)) (known : Option (List ℕ)
     (config : reader_config old ≡ default_config) (state : reader_state old ≡ st.StartRecord)
     (source : source_of rem old ≡ option_map strip_bom known) where
   pub first_none : ReadRecord rem old new false fields
-      → IfSome known (λ bytes. IsAnswer (verdict (rows_of bytes)) (Err (Flawed flaw.NoEnd)))
+      → IfSome known (λ bytes. IsAnswer (verdict (csv_rows_of bytes)) (Err (Flawed flaw.NoEnd)))
   first_none read =
       when_known known _ (λ bytes is.
       no_header bytes (reader_state new) (source_of rem new) fields
       (rw (state, source ∙ ap (option_map strip_bom) is) at (record_reads rem old new false fields config read)))
 
   pub first_bad : ReadRecord rem old new true fields → is_header fields ≡ false
-      → IfSome known (λ bytes. IsAnswer (verdict (rows_of bytes)) (Err (Flawed (flaw.BadRow 1))))
+      → IfSome known (λ bytes. IsAnswer (verdict (csv_rows_of bytes)) (Err (Flawed (flaw.BadRow 1))))
   first_bad read bad =
       when_known known _ (λ bytes is.
       bad_header bytes (reader_state new) (source_of rem new) fields
@@ -52,17 +52,17 @@ module _ {R : Type 0} (rem : R → Option (List ℕ)) (known : Option (List ℕ)
 
   pub first_good : ReadRecord rem old new true fields → is_header fields ≡ true → (result : Result Counts CheckFault)
       → AnswersRest (reader_state new) (source_of rem new) result
-      → IfSome known (λ bytes. IsAnswer (verdict (rows_of bytes)) result)
+      → IfSome known (λ bytes. IsAnswer (verdict (csv_rows_of bytes)) result)
   first_good read good result answers =
-      when_known known _ (λ bytes is. answers (verdict (rows_of bytes))
+      when_known known _ (λ bytes is. answers (verdict (csv_rows_of bytes))
       (begun_left bytes (reader_state new) (source_of rem new) fields
       (rw (state, source ∙ ap (option_map strip_bom) is) at (record_reads rem old new true fields config read)) good))
 
   pub first_rows : ReadRecord rem old new true fields → (result : Result Counts CheckFault)
       → ((total : ℕ) → AreRows total 2 (reader_state new) (source_of rem new) → OnOk result (total ≤ most_rows))
-      → IfSome known (λ bytes. OnOk result (length (rows_of bytes) ≤ most_rows))
+      → IfSome known (λ bytes. OnOk result (length (csv_rows_of bytes) ≤ most_rows))
   first_rows read result few =
-      when_known known _ (λ bytes is. few (length (rows_of bytes))
+      when_known known _ (λ bytes is. few (length (csv_rows_of bytes))
       (rows_begun bytes (reader_state new) (source_of rem new) fields
       (rw (state, source ∙ ap (option_map strip_bom) is) at (record_reads rem old new true fields config read))))
 
@@ -80,7 +80,7 @@ module _ {R : Type 0} (rem : R → Option (List ℕ)) (found : Result Counts Fla
       answer
 
   module _ (read : ReadRecord rem old new true fields) where
-    pub next_unread : (fault : Fault BadRow) → IsRead (line_at (edition_by kept.copy) fields) (Err fault)
+    pub next_unread : (fault : Fault BadRow) → IsRowRead (line_at (edition_by kept.copy) fields) (Err fault)
         → IsAnswer found (Err (fault_at row fault))
     next_unread (row_fault.Refused _) none =
         bad_row found kept row (reader_state old) (reader_state new) (source_of rem old) (source_of rem new) fields left

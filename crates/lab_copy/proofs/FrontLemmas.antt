@@ -16,7 +16,7 @@ use Rattle.lab_copy_rows.specs.declared.flaws.Flaw.TheVariants as flaw
 use Rattle.lab_copy_rows.specs.declared.lines.Counts.{Counts}
 use Rattle.lab_copy_rows.specs.declared.lines.Line.{Line}
 use Rattle.lab_copy_rows.proofs.ListLemmas.{never}
-use Rattle.lab_copy.specs.Checks.{most_rows, rows_of}
+use Rattle.lab_copy.specs.Checks.{most_rows, csv_rows_of}
 use Rattle.lab_copy.specs.Faults.{IsAnswer}
 use Rattle.lab_copy.specs.Fronts.{SoFar, after, done_by, front, is_too_long, mark_after, most_bytes, most_fields, row_begun, stepped, text_begun}
 use Rattle.lab_copy.proofs.FrontWords.{front_of}
@@ -566,27 +566,27 @@ stripped (a ∷ b ∷ c ∷ rest) =
 
 -- ---- a copy
 
-fronts_of : (bytes : List ℕ) → AreFront (rows_of bytes) (rows_of (front_of bytes))
+fronts_of : (bytes : List ℕ) → AreFront (csv_rows_of bytes) (csv_rows_of (front_of bytes))
 fronts_of bytes =
     let xs = strip_bom bytes in
     let enough : IsEnough (length xs + 1) st.StartRecord xs = record { between = refl; few = omega arith } in
     let enough_less : IsEnough (length (front row_begun xs) + 1) st.StartRecord (front row_begun xs) = record { between = refl; few = omega arith } in
-    subst (λ part. AreFront (rows_of bytes) (records_from default_config (length part + 1) st.StartRecord part)) (sym (stripped bytes))
+    subst (λ part. AreFront (csv_rows_of bytes) (records_from default_config (length part + 1) st.StartRecord part)) (sym (stripped bytes))
     (fronts (length xs) st.StartRecord xs (length xs + 1) (length (front row_begun xs) + 1) (omega arith) enough enough_less)
 
 pub answers_whole : (known : Option (List ℕ)) (result : Result Counts CheckFault)
-    → IfSome (option_map front_of known) (λ bytes. IsAnswer (verdict (rows_of bytes)) result)
-    → IfSome known (λ bytes. IsAnswer (verdict (rows_of bytes)) result)
+    → IfSome (option_map front_of known) (λ bytes. IsAnswer (verdict (csv_rows_of bytes)) result)
+    → IfSome known (λ bytes. IsAnswer (verdict (csv_rows_of bytes)) result)
 answers_whole None result answers = tt
 answers_whole (Some bytes) result answers =
-    subst (λ found. IsAnswer found result) (sym (same_verdict (rows_of bytes) (rows_of (front_of bytes)) (fronts_of bytes))) answers
+    subst (λ found. IsAnswer found result) (sym (same_verdict (csv_rows_of bytes) (csv_rows_of (front_of bytes)) (fronts_of bytes))) answers
 
 pub rows_whole : (known : Option (List ℕ)) (result : Result Counts CheckFault)
-    → IfSome (option_map front_of known) (λ bytes. IsAnswer (verdict (rows_of bytes)) result)
-    → IfSome (option_map front_of known) (λ bytes. OnOk result (length (rows_of bytes) ≤ most_rows))
-    → IfSome known (λ bytes. OnOk result (length (rows_of bytes) ≤ most_rows))
+    → IfSome (option_map front_of known) (λ bytes. IsAnswer (verdict (csv_rows_of bytes)) result)
+    → IfSome (option_map front_of known) (λ bytes. OnOk result (length (csv_rows_of bytes) ≤ most_rows))
+    → IfSome known (λ bytes. OnOk result (length (csv_rows_of bytes) ≤ most_rows))
 rows_whole None result answers few = tt
 rows_whole (Some bytes) (Err fault) answers few = tt
 rows_whole (Some bytes) (Ok counts) answers few =
-    let all = all_rows (rows_of bytes) (rows_of (front_of bytes)) (fronts_of bytes) (counts, answers) in
+    let all = all_rows (csv_rows_of bytes) (csv_rows_of (front_of bytes)) (fronts_of bytes) (counts, answers) in
     omega (arith, few, all)

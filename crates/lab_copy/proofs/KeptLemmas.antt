@@ -26,7 +26,7 @@ use Rattle.lab_copy_lines.specs.Fields.{HasReasonUnlessFirst}
 use Rattle.lab_copy_lines.specs.Lines.{IsReasoned}
 use Rattle.lab_copy.specs.Current.{hand_of, amendment_by, amendment_behind, begun, with_entry, with_signature, has_numbers, flaw_of_current}
 use Rattle.lab_copy_lines.specs.Kinds.{kind_of, may_come_after, is_end_kind}
-use Rattle.lab_copy.specs.Kept.{is_version_behind, has_kept_numbers, may_come, is_in_place_by, is_in_place_kept, flaw_of_signature_kept, flaw_of_version_kept, flaw_kept, copy_with, about_with, version_with, kept_with, verdict_kept, edition_by, first_copy, ends_in_version, hand_at, kept_none, kept_of, BeginsWithCopy, HasVersion, IsAt, IsKeepFault, IsTaken, MayBegin, MayRunOut, is_kept_made, is_text_made}
+use Rattle.lab_copy.specs.Kept.{is_version_behind, has_kept_numbers, may_come, is_in_place_by, is_in_place_kept, flaw_of_signature_kept, flaw_of_version_kept, flaw_kept, copy_with, about_with, version_with, kept_with, verdict_kept, edition_by, first_copy, ends_in_version, hand_at, kept_none, kept_of, BeginsWithCopy, HasVersionRows, IsAt, IsKeepFault, IsTaken, MayBegin, MayRunOut, is_kept_made, is_text_made}
 use Rattle.lab_copy.proofs.KeptWords.{current_begun}
 use Rattle.lab_copy.specs.declared.faults.CheckFault.{CheckFault}
 use Rattle.lab_copy.specs.declared.faults.CheckFault.TheVariants.{Flawed, Read, Memory}
@@ -224,7 +224,7 @@ signature_behind (End _) line may = never may
 version_ends : (lines : List Line) (last : Line) → last_of lines ≡ Some last → ends_in_version lines ≡ is_of_version last
 version_ends lines last is = ap (is_some_and is_of_version) is
 
-module _ (lines : List Line) (has : HasVersion lines) where
+module _ (lines : List Line) (has : HasVersionRows lines) where
   -- where a version's rows end the lines, what is kept of it tells as much as its row
   module _ (ends : ends_in_version lines ≡ true) where
     abbrev told : Told
@@ -311,7 +311,7 @@ empty_place (Entry line) = refl
 empty_place (Signature line) = refl
 empty_place (End line) = refl
 
-begun_place : (copy : CopyLine) (rest : List Line) (line : Line) → HasVersion (Copy copy ∷ rest)
+begun_place : (copy : CopyLine) (rest : List Line) (line : Line) → HasVersionRows (Copy copy ∷ rest)
     → is_in_place_kept (kept_of (Copy copy ∷ rest)) line ≡ is_in_place (Copy copy ∷ rest) line
 unfolding is_in_place
 begun_place copy rest line has =
@@ -326,11 +326,11 @@ begun_place copy rest line has =
     (sym (ap (is_some_and (λ one. may_follow one line)) last.1) ∙ and_right mine may both))
 
 -- what is kept tells whether a line is in its place
-pub place_is : (lines : List Line) (line : Line) → (lines ≡ []) ⊎ BeginsWithCopy lines → HasVersion lines
+pub place_is : (lines : List Line) (line : Line) → (lines ≡ []) ⊎ BeginsWithCopy lines → HasVersionRows lines
     → is_in_place_kept (kept_of lines) line ≡ is_in_place lines line
 place_is lines line (inl none) has = subst (λ all. is_in_place_kept (kept_of all) line ≡ is_in_place all line) (sym none) (empty_place line)
 place_is lines line (inr begins) has =
-    subst (λ all. HasVersion all → is_in_place_kept (kept_of all) line ≡ is_in_place all line) (sym begins.lines_are)
+    subst (λ all. HasVersionRows all → is_in_place_kept (kept_of all) line ≡ is_in_place all line) (sym begins.lines_are)
     (begun_place begins.copy begins.rest line) has
 
 -- ---- what a line in its place follows
@@ -407,7 +407,7 @@ version_flaw : (lines : List Line) → flaw_of_version_kept (kept_of lines) ≡ 
 unfolding flaw_of_last_version
 version_flaw lines = hand_flaw (ends_in_version lines) (length (before_last is_version lines) + 2) (last_told lines)
 
-pub flaw_is : (lines : List Line) (line : Line) → HasVersion lines → is_in_place lines line ≡ true
+pub flaw_is : (lines : List Line) (line : Line) → HasVersionRows lines → is_in_place lines line ≡ true
     → flaw_kept (length lines + 2) (kept_of lines) line ≡ flaw_shown lines line
 flaw_is lines (Copy line) has place = version_flaw lines
 flaw_is lines (Record line) has place = version_flaw lines
@@ -481,7 +481,7 @@ first_of line about first =
     eqb-true line.number first_number
     (and_right (line.record_number == about.record_number) (line.number == first_number) first)
 
-module _ (lines : List Line) (has : HasVersion lines) where
+module _ (lines : List Line) (has : HasVersionRows lines) where
   -- a version row behind the row of its record, or behind the rows of the version before
   amendment_is : (line : VersionLine) → Follows lines (Version line) → HasReasonUnlessFirst line.number line.reason
       → amendment_by line.reason (option_map (λ (current : CurrentVersion). current.digest) (hand_at lines)) ≡ amendment_told line.reason (last_version lines)
@@ -649,7 +649,7 @@ about_next lines (End line) = sym (record_push lines (End line) refl)
 behind_ends : (lines : List Line) (line : Line) (behind : Follows lines line) → is_of_version behind.last ≡ true → ends_in_version lines ≡ true
 behind_ends lines line behind of = version_ends lines behind.last behind.last_is ∙ of
 
-version_next : (lines : List Line) (line : Line) → HasVersion lines → IsReasoned line → is_in_place lines line ≡ true
+version_next : (lines : List Line) (line : Line) → HasVersionRows lines → IsReasoned line → is_in_place lines line ≡ true
     → version_with (length lines + 2) (kept_of lines) line ≡ hand_at (lines ++ (line ∷ []))
 version_next lines (Copy line) has reasoned place = sym (no_hand_at lines (Copy line) refl)
 version_next lines (Record line) has reasoned place = sym (no_hand_at lines (Record line) refl)
@@ -663,7 +663,7 @@ version_next lines (Signature line) has reasoned place =
     signature_hand_next lines has (behind_ends lines (Signature line) behind (signature_behind behind.last line behind.may)) line
 version_next lines (End line) has reasoned place = sym (no_hand_at lines (End line) refl)
 
-kept_next : (lines : List Line) (line : Line) → HasVersion lines → IsReasoned line → is_in_place lines line ≡ true
+kept_next : (lines : List Line) (line : Line) → HasVersionRows lines → IsReasoned line → is_in_place lines line ≡ true
     → kept_with (length lines + 2) (kept_of lines) line ≡ kept_of (lines ++ (line ∷ []))
 kept_next lines line has reasoned place =
     kept_same _ _ (copy_next lines line place) (about_next lines line) (version_next lines line has reasoned place)
@@ -681,7 +681,7 @@ begins_next_by lines line (inr behind) = record {
 begins_next : (lines : List Line) (line : Line) → is_in_place lines line ≡ true → BeginsWithCopy (lines ++ (line ∷ []))
 begins_next lines line place = begins_next_by lines line (place_or lines line place)
 
-version_has : (lines : List Line) (line : Line) → HasVersion lines → is_in_place lines line ≡ true → HasVersion (lines ++ (line ∷ []))
+version_has : (lines : List Line) (line : Line) → HasVersionRows lines → is_in_place lines line ≡ true → HasVersionRows (lines ++ (line ∷ []))
 version_has lines (Copy line) has place ends = never (sym (ends_push lines (Copy line)) ∙ ends)
 version_has lines (Record line) has place ends = never (sym (ends_push lines (Record line)) ∙ ends)
 version_has lines (Version line) has place ends =

@@ -17,7 +17,7 @@ use Rattle.lab_seal_versions.specs.declared.versions.Format.{Format}
 use Rattle.lab_seal_versions.specs.declared.seals.Meaning.{Meaning}
 use Rattle.lab_seal_versions.specs.declared.seals.Meaning.TheVariants as meaning
 use Rattle.lab_seal_versions.specs.declared.states.State.{State}
-use Rattle.lab_seal.specs.Reading.{◌>>=◌, number_of, text_where, ordinal_in, reason_in, moment_in}
+use Rattle.lab_seal.specs.Reading.{◌>>=◌, number_written, text_where, ordinal_in, reason_in, moment_in}
 use Rattle.lab_seal.proofs.ReadLemmas.{bind_some, when_some, number_sound}
 use Rattle.lab_seal.proofs.SpellingLemmas.{text_sound, ordinal_sound, moment_in_sound}
 use Rattle.lab_copy_rows.specs.Rows.{Columns, fields_in, header_row}
@@ -103,17 +103,17 @@ note_of_short text found e = short_text is_note text found e note_short
 unit_of_short : (text found : List ℕ) → text_where is_unit text ≡ Some found → IsShort text
 unit_of_short text found e = short_text is_unit text found e unit_short
 
-number_short : (text : List ℕ) (found : ℕ) → number_of text ≡ Some found → IsShort text
+number_short : (text : List ℕ) (found : ℕ) → number_written text ≡ Some found → IsShort text
 number_short text found e =
     let has = number_sound text found e in
     let few : length (decimal found) ≤ 20 = length-decimal-le 20 found (omega arith) (omega arith) has.0 in
     subst IsShort (sym has.1) (omega (arith, few))
 
 ordinal_short : (text : List ℕ) (found : ℕ) → ordinal_in text ≡ Some found → IsShort text
-ordinal_short text found e = let read = bind_some (number_of text) _ found e in number_short text read.0 read.1
+ordinal_short text found e = let read = bind_some (number_written text) _ found e in number_short text read.0 read.1
 
 count_short : (text : List ℕ) (found : ℕ) → count_in text ≡ Some found → IsShort text
-count_short text found e = let read = bind_some (number_of text) _ found e in number_short text read.0 read.1
+count_short text found e = let read = bind_some (number_written text) _ found e in number_short text read.0 read.1
 
 moment_long : (n : ℕ) → length (moment_text n) ≡ 20
 unfolding moment_text

@@ -17,7 +17,7 @@ use Rattle.lab_copy_rows.specs.declared.flaws.Flaw.TheVariants as flaw
 use Rattle.lab_copy_rows.specs.declared.lines.Counts.{Counts}
 use Rattle.lab_copy_rows.specs.declared.lines.Line.{Line}
 use Rattle.lab_copy.specs.Faults.{IsAnswer}
-use Rattle.lab_copy.specs.Checks.{rows_of}
+use Rattle.lab_copy.specs.Checks.{csv_rows_of}
 use Rattle.lab_copy_lines.specs.Lines.{line_at}
 use Rattle.lab_copy.specs.Kept.{IsAt, IsTaken, edition_by, kept_none, verdict_kept}
 use Rattle.lab_copy.specs.Left.{AreRows, IsEnough, IsLeftOf}
@@ -207,7 +207,7 @@ when_known (Some bytes) Q more = more bytes refl
 
 pub no_header : (bytes : List ℕ) (after : State) (next : Option (List ℕ)) (fields : List (List ℕ))
     → ReadsNext default_config st.StartRecord (Some (strip_bom bytes)) next false fields after
-    → verdict (rows_of bytes) ≡ Err flaw.NoEnd
+    → verdict (csv_rows_of bytes) ≡ Err flaw.NoEnd
 unfolding verdict
 no_header bytes after next fields reads =
     ap verdict (none_left (length (strip_bom bytes) + 1) st.StartRecord (strip_bom bytes)
@@ -216,7 +216,7 @@ no_header bytes after next fields reads =
 first_left : (bytes : List ℕ) (after : State) (next : Option (List ℕ)) (fields : List (List ℕ))
     → ReadsNext default_config st.StartRecord (Some (strip_bom bytes)) next true fields after
     → (rest : List ℕ) × (fuel : ℕ) × (next ≡ Some rest) × IsEnough fuel after rest
-    × (rows_of bytes ≡ fields ∷ records_from default_config fuel after rest)
+    × (csv_rows_of bytes ≡ fields ∷ records_from default_config fuel after rest)
 first_left bytes after next fields reads =
     let found = read_some st.StartRecord after (strip_bom bytes) next fields reads in
     let left = some_left (length (strip_bom bytes) + 1) st.StartRecord (strip_bom bytes) found.0
@@ -230,7 +230,7 @@ first_left bytes after next fields reads =
 
 pub bad_header : (bytes : List ℕ) (after : State) (next : Option (List ℕ)) (fields : List (List ℕ))
     → ReadsNext default_config st.StartRecord (Some (strip_bom bytes)) next true fields after
-    → is_header fields ≡ false → verdict (rows_of bytes) ≡ Err (flaw.BadRow 1)
+    → is_header fields ≡ false → verdict (csv_rows_of bytes) ≡ Err (flaw.BadRow 1)
 unfolding verdict
 bad_header bytes after next fields reads bad =
     let left = first_left bytes after next fields reads in
@@ -239,7 +239,7 @@ bad_header bytes after next fields reads bad =
 
 pub begun_left : (bytes : List ℕ) (after : State) (next : Option (List ℕ)) (fields : List (List ℕ))
     → ReadsNext default_config st.StartRecord (Some (strip_bom bytes)) next true fields after
-    → is_header fields ≡ true → IsLeftOf (verdict (rows_of bytes)) kept_none 2 after next
+    → is_header fields ≡ true → IsLeftOf (verdict (csv_rows_of bytes)) kept_none 2 after next
 unfolding verdict
 begun_left bytes after next fields reads good =
     let left = first_left bytes after next fields reads in (
@@ -357,7 +357,7 @@ module _ (found : Result Counts Flaw) (kept : Kept) (row : ℕ) (before after : 
 
 pub rows_begun : (bytes : List ℕ) (after : State) (next : Option (List ℕ)) (fields : List (List ℕ))
     → ReadsNext default_config st.StartRecord (Some (strip_bom bytes)) next true fields after
-    → AreRows (length (rows_of bytes)) 2 after next
+    → AreRows (length (csv_rows_of bytes)) 2 after next
 rows_begun bytes after next fields reads =
     let left = first_left bytes after next fields reads in
     (left.0, left.1, left.2, left.3, omega (arith, ap length left.4))

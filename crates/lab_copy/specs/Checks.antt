@@ -10,8 +10,8 @@ use Rattle.lab_copy.specs.declared.faults.CheckFault.TheVariants.{Flawed, Memory
 
 -- the rows of a text of CSV (RFC 4180), behind a byte order mark that it may begin with; the kit's
 -- reader defines them
-abbrev pub rows_of : List ℕ → List (List (List ℕ))
-rows_of bytes = records default_config (strip_bom bytes)
+abbrev pub csv_rows_of : List ℕ → List (List (List ℕ))
+csv_rows_of bytes = records default_config (strip_bom bytes)
 
 -- how many rows of a copy are read at most, and how often its reader is asked; no copy has as many
 -- rows or bytes

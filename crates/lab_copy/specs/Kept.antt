@@ -173,14 +173,14 @@ pub record BeginsWithCopy (lines : List Line) : Type 0 where
   pub lines_are : lines ≡ Copy copy ∷ rest
 
 -- a version's rows stand under a version of a record
-abbrev pub HasVersion : List Line → Type 0
-HasVersion lines = ends_in_version lines ≡ true → (told : Told) × (last_told lines ≡ Some told)
+abbrev pub HasVersionRows : List Line → Type 0
+HasVersionRows lines = ends_in_version lines ≡ true → (told : Told) × (last_told lines ≡ Some told)
 
 -- this is what is kept of these lines, which begin as a copy does
 pub record IsAt (kept : Kept) (lines : List Line) : Type 0 where
   pub kept_is : kept ≡ kept_of lines
   pub begins : (lines ≡ []) ⊎ BeginsWithCopy lines
-  pub has_version : HasVersion lines
+  pub has_version : HasVersionRows lines
 
 -- ---- what is made of a line, and so may run out of memory
 

@@ -6,7 +6,7 @@ ghost use Rattle.csv.specs.declared.parser.State.TheVariants as st;
 ghost use Rattle.csv.specs.declared.reader.Trim.TheVariants as trim;
 ghost use Rattle.lab_copy_rows.specs.Copies.{verdict};
 ghost use Rattle.lab_copy.specs.Faults.{IsAnswer, IsNoFlaw};
-ghost use Rattle.lab_copy.specs.Checks.{fault_at, most_asks, most_rows, rows_of};
+ghost use Rattle.lab_copy.specs.Checks.{fault_at, most_asks, most_rows, csv_rows_of};
 ghost use Rattle.lab_copy.specs.Kept.{kept_none};
 ghost use Rattle.lab_copy.specs.Left.{AnswersRest, AreRows};
 
@@ -34,9 +34,9 @@ const MOST_ROWS: u64 = 1_000_000_000_000;
 /// more than 1,000,000,000,000 rows; or memory ran out.
 pub fn check_copy<R: ByteSource>(alloc: Global, reader: &mut R) -> Result<Counts, CheckFault>
     ensures verdict { IfSome (R.remaining reader.old) (λ bytes.
-        IsAnswer (verdict (rows_of bytes)) result) }
+        IsAnswer (verdict (csv_rows_of bytes)) result) }
     ensures rows { IfSome (R.remaining reader.old) (λ bytes.
-        OnOk result (length (rows_of bytes) ≤ most_rows)) }
+        OnOk result (length (csv_rows_of bytes) ≤ most_rows)) }
     ensures asks { R.asks reader.new ≤ R.asks reader.old + most_asks }
 {
     let (answer, _) = check_asking::<Brand, R>(alloc, reader);
@@ -51,9 +51,9 @@ fn check_asking<'a, A: Asking, R: ByteSource>(
     requires name { source.ghost_name ≡ A.name }
     requires most { R.asks source.old + most_asks ≤ A.most }
     ensures verdict { IfSome (R.remaining source.old) (λ bytes.
-        IsAnswer (verdict (rows_of bytes)) result.0) }
+        IsAnswer (verdict (csv_rows_of bytes)) result.0) }
     ensures rows { IfSome (R.remaining source.old) (λ bytes.
-        OnOk result.0 (length (rows_of bytes) ≤ most_rows)) }
+        OnOk result.0 (length (csv_rows_of bytes) ≤ most_rows)) }
     ensures same_reference { result.1.ghost_name ≡ source.entry.ghost_name }
     ensures asks { R.asks result.1.now ≤ A.most }
 {
@@ -77,10 +77,10 @@ fn check_all<R: Read>(alloc: Global, rows: &mut Reader<R>) -> Result<Counts, Che
     requires state { reader_state rows.old ≡ st.StartRecord }
     ensures verdict { (known : Option (List ℕ))
         → source_of R.remaining rows.old ≡ option_map strip_bom known
-        → IfSome known (λ bytes. IsAnswer (verdict (rows_of bytes)) result) }
+        → IfSome known (λ bytes. IsAnswer (verdict (csv_rows_of bytes)) result) }
     ensures rows { (known : Option (List ℕ))
         → source_of R.remaining rows.old ≡ option_map strip_bom known
-        → IfSome known (λ bytes. OnOk result (length (rows_of bytes) ≤ most_rows)) }
+        → IfSome known (λ bytes. OnOk result (length (csv_rows_of bytes) ≤ most_rows)) }
 {
     let mut row = ByteRecord::new(alloc);
     if !read_row(rows, &mut row)? {

@@ -9,11 +9,11 @@ use Rattle.csv.specs.Records.{field_at}
 use Rattle.lab_forms_texts.specs.Calendar.{days_of_spans, span_of, place_of, place_in_year, year_of, month_of, day_of_month, hour_of, minute_of, second_of}
 use Rattle.lab_forms_texts.specs.Moment.{moment_of, moment_text}
 use Rattle.lab_forms_texts.specs.Names.{is_lab_code, is_person_code, is_key, is_name, is_note, is_unit}
-use Rattle.lab_seal.specs.Reading.{number_of}
+use Rattle.lab_seal.specs.Reading.{number_written}
 use Rattle.lab_copy_rows.specs.Reading.{line_of, copy_line, record_line, version_line, entry_line, signature_line, end_line}
 use Rattle.lab_copy_rows.specs.declared.lines.Edition.TheVariants.{Two}
 use Rattle.lab_copy_rows.specs.declared.lines.Line.TheVariants as line
-use Rattle.lab_copy_lines.specs.Lines.{IsRead, field_in, line_at}
+use Rattle.lab_copy_lines.specs.Lines.{IsRowRead, field_in, line_at}
 use Rattle.lab_copy_lines.specs.Kinds.{is_end_kind, may_come_after}
 use Rattle.lab_forms_texts.specs.declared.refusals.Fault.TheVariants.{Refused}
 use Rattle.lab_copy_lines.specs.declared.kinds.Kind.TheVariants.{Copy, Record, Version, Entry, Signature, End}
@@ -38,7 +38,7 @@ pub known_entry : line_at Two (entry (codes "12") [])
         reason = Some (codes "misread");
       };
     }))
-unfolding line_of copy_line record_line version_line entry_line signature_line end_line number_of moment_of days_of_spans moment_text year_of place_in_year month_of day_of_month hour_of minute_of second_of span_of place_of is_lab_code is_person_code is_key is_name is_note is_unit is_utf8 chars encode digits
+unfolding line_of copy_line record_line version_line entry_line signature_line end_line number_written moment_of days_of_spans moment_text year_of place_in_year month_of day_of_month hour_of minute_of second_of span_of place_of is_lab_code is_person_code is_key is_name is_note is_unit is_utf8 chars encode digits
 known_entry = refl
 
 -- no row: a leading zero, number 0, one past the last, a field that has to be empty, a field too few or too many, none
@@ -46,7 +46,7 @@ pub known_unread : (line_at Two (entry (codes "012") []) ≡ None) × (line_at T
     × (line_at Two (entry (codes "1000000001") []) ≡ None) × (line_at Two (entry (codes "12") (codes "Dan Day")) ≡ None)
     × (line_at Two (codes "entry" ∷ codes "aqua" ∷ []) ≡ None) × (line_at Two ([] ∷ entry (codes "12") []) ≡ None)
     × (line_at Two [] ≡ None)
-unfolding line_of copy_line record_line version_line entry_line signature_line end_line number_of moment_of days_of_spans moment_text year_of place_in_year month_of day_of_month hour_of minute_of second_of span_of place_of is_lab_code is_person_code is_key is_name is_note is_unit is_utf8 chars encode digits
+unfolding line_of copy_line record_line version_line entry_line signature_line end_line number_written moment_of days_of_spans moment_text year_of place_in_year month_of day_of_month hour_of minute_of second_of span_of place_of is_lab_code is_person_code is_key is_name is_note is_unit is_utf8 chars encode digits
 known_unread = (refl, refl, refl, refl, refl, refl, refl)
 
 -- a field past the last is empty
@@ -68,5 +68,5 @@ some_is : {A : Type 0} (one : A) → Some one ≡ None → ⊥
 some_is one wrong = absurd cc
 
 -- a row that stands for something is never told as a bad one
-pub known_told : IsRead {A = ℕ} None (Err (Refused (record {}))) × (IsRead {A = ℕ} (Some 7) (Err (Refused (record {}))) → ⊥) × (IsRead {A = ℕ} (Some 7) (Ok 8) → ⊥)
+pub known_told : IsRowRead {A = ℕ} None (Err (Refused (record {}))) × (IsRowRead {A = ℕ} (Some 7) (Err (Refused (record {}))) → ⊥) × (IsRowRead {A = ℕ} (Some 7) (Ok 8) → ⊥)
 known_told = (refl, λ same. some_is 7 same, λ same. true≢false (ap (λ found. unwrap_or found 0 == 7) same))

@@ -34,11 +34,11 @@ HasReasonUnlessFirst number None = number ≡ first_number
 HasReasonUnlessFirst number (Some _) = number ≢ first_number
 
 -- the meaning that the code has of a row before it takes memory
-abbrev pub meaning_of : MeaningParts → Meaning
-meaning_of Authorship = meaning.Authorship
-meaning_of Review = meaning.Review
-meaning_of (Rejection reason) = meaning.Rejection reason.now
-meaning_of Approval = meaning.Approval
+abbrev pub meaning_in_row : MeaningParts → Meaning
+meaning_in_row Authorship = meaning.Authorship
+meaning_in_row Review = meaning.Review
+meaning_in_row (Rejection reason) = meaning.Rejection reason.now
+meaning_in_row Approval = meaning.Approval
 
 -- ---- each text is one that its type admits
 

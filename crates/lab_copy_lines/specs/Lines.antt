@@ -18,10 +18,10 @@ use Rattle.lab_copy_lines.specs.declared.faults.BadRow.{BadRow}
 
 -- what is found is what is there, and a bad row is told where nothing is; out of memory only where
 -- there is something, whose texts are copied
-abbrev pub IsRead : {A : Type 0} → Option A → Result A (Fault BadRow) → Type 0
-IsRead found (Ok value) = found ≡ Some value
-IsRead found (Err (Refused _)) = found ≡ None
-IsRead found (Err Memory) = IsSome found
+abbrev pub IsRowRead : {A : Type 0} → Option A → Result A (Fault BadRow) → Type 0
+IsRowRead found (Ok value) = found ≡ Some value
+IsRowRead found (Err (Refused _)) = found ≡ None
+IsRowRead found (Err Memory) = IsSome found
 
 -- a field, or nothing where there are fewer
 abbrev pub field_in : List (List ℕ) → ℕ → List ℕ

@@ -5,15 +5,15 @@ use Rattle.lab_forms_texts.specs.Names.{is_lab_code, is_person_code, is_key, is_
 use Rattle.lab_copy_rows.specs.declared.lines.VersionLine.{VersionLine}
 use Rattle.lab_copy_rows.specs.declared.lines.EntryLine.{EntryLine}
 use Rattle.lab_copy_rows.specs.declared.lines.SignatureLine.{SignatureLine}
-use Rattle.lab_copy_lines.specs.Fields.{HasReasonUnlessFirst, meaning_of, IsNoteOrNone, IsMeaningText}
+use Rattle.lab_copy_lines.specs.Fields.{HasReasonUnlessFirst, meaning_in_row, IsNoteOrNone, IsMeaningText}
 use Rattle.lab_copy_lines.specs.declared.version_row_parts.VersionRowParts.{VersionRowParts}
 use Rattle.lab_copy_lines.specs.declared.version_row_parts.EntryParts.{EntryParts}
 use Rattle.lab_copy_lines.specs.declared.version_row_parts.SignatureParts.{SignatureParts}
 
 -- ---- the lines
 
-abbrev pub version_of : VersionRowParts → VersionLine
-version_of parts = record {
+abbrev pub version_line_of : VersionRowParts → VersionLine
+version_line_of parts = record {
   lab = parts.lab.now;
   record_number = parts.record_number;
   number = parts.number;
@@ -49,7 +49,7 @@ signature_of parts = record {
     lab = parts.lab.now;
     person = parts.person.now;
     name = parts.name.now;
-    meaning = meaning_of parts.meaning;
+    meaning = meaning_in_row parts.meaning;
     moment = parts.moment;
   };
   seal = parts.seal;

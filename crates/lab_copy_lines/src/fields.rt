@@ -5,7 +5,7 @@ ghost use Rattle.std.specs.Str.{bytes_eq};
 ghost use Rattle.lab_seal_hashes.specs.Digits.{bytes_of_digits};
 ghost use Rattle.lab_seal.specs.Reading.{text_where, ordinal_in, reason_in, moment_in};
 ghost use Rattle.lab_copy_rows.specs.Reading.{all_empty, person_in, count_in, edition_in, format_in, state_in, meaning_in, version_reason_in};
-ghost use Rattle.lab_copy_lines.specs.Fields.{HasReasonUnlessFirst, IsMeaningText, IsNoteOrNone, IsPersonOrNone, meaning_of};
+ghost use Rattle.lab_copy_lines.specs.Fields.{HasReasonUnlessFirst, IsMeaningText, IsNoteOrNone, IsPersonOrNone, meaning_in_row};
 
 use lab_copy_rows::{
     Digest, Edition, Format, Meaning, Moment, Note, Ordinal, OutOfMemory, PersonCode, Seal, State,
@@ -222,7 +222,7 @@ pub enum MeaningParts<'a> {
 
 /// Reads a meaning from its word and the reason. Only a rejection has a reason.
 pub fn meaning<'a>(word: &[u8], reason: &'a [u8]) -> Option<MeaningParts<'a>>
-    ensures value { option_map meaning_of result ≡ meaning_in word.now reason.now }
+    ensures value { option_map meaning_in_row result ≡ meaning_in word.now reason.now }
     ensures admitted { IfSome result IsMeaningText }
 {
     if is_word(word, "rejection") {
@@ -248,7 +248,7 @@ pub fn meaning<'a>(word: &[u8], reason: &'a [u8]) -> Option<MeaningParts<'a>>
 /// Memory ran out.
 pub fn own_meaning(alloc: Global, meaning: MeaningParts<'_>) -> Result<Meaning, OutOfMemory>
     requires { IsMeaningText meaning }
-    ensures { IfOk result (λ copy. copy ≡ meaning_of meaning.entry) }
+    ensures { IfOk result (λ copy. copy ≡ meaning_in_row meaning.entry) }
 {
     match meaning {
         MeaningParts::Authorship => Ok(Meaning::Authorship),

@@ -4,9 +4,9 @@ ghost use Rattle.csv.specs.Records.{fields_of};
 ghost use Rattle.lab_copy_rows.specs.Copies.{is_approval, is_of_edition, is_older};
 ghost use Rattle.lab_copy_rows.specs.declared.lines.Line.TheVariants.{Signature, Version};
 ghost use Rattle.lab_copy_rows.specs.Reading.{copy_line, record_line, version_line, entry_line, signature_line, end_line};
-ghost use Rattle.lab_copy_lines.specs.Fields.{HasReasonUnlessFirst, columns_in, meaning_of};
-ghost use Rattle.lab_copy_lines.specs.Lines.{IsRead, IsReasoned, line_at, line_by, within};
-ghost use Rattle.lab_copy_lines.specs.VersionRowParts.{signature_of, version_of};
+ghost use Rattle.lab_copy_lines.specs.Fields.{HasReasonUnlessFirst, columns_in, meaning_in_row};
+ghost use Rattle.lab_copy_lines.specs.Lines.{IsRowRead, IsReasoned, line_at, line_by, within};
+ghost use Rattle.lab_copy_lines.specs.VersionRowParts.{signature_of, version_line_of};
 
 use crate::byte_records::row_fields;
 use crate::faults::{BadRow, RowFault};
@@ -29,7 +29,7 @@ use std::alloc::Global;
 /// # Errors
 /// No copy can have the row, or memory ran out.
 pub fn read_line(alloc: Global, edition: Edition, row: &ByteRecord) -> Result<Line, RowFault>
-    ensures value { IsRead (line_at edition (fields_of row.now)) result }
+    ensures value { IsRowRead (line_at edition (fields_of row.now)) result }
     ensures reasoned { IfOk result IsReasoned }
 {
     match row_fields(row) {
@@ -41,7 +41,7 @@ pub fn read_line(alloc: Global, edition: Edition, row: &ByteRecord) -> Result<Li
 // What a row stands for, depending on its kind.
 #[tactic(auto, unfolding(lab_copy_rows::specs::Reading::line_of))]
 fn line_by(alloc: Global, edition: Edition, row: &RowFields<'_>) -> Result<Line, RowFault>
-    ensures value { IsRead (line_by edition (columns_in row.now)) result }
+    ensures value { IsRowRead (line_by edition (columns_in row.now)) result }
     ensures reasoned { IfOk result IsReasoned }
 {
     if is_word(row.kind, "copy") {
@@ -62,7 +62,7 @@ fn line_by(alloc: Global, edition: Edition, row: &RowFields<'_>) -> Result<Line,
 }
 
 fn copy_line(alloc: Global, row: &RowFields<'_>) -> Result<CopyLine, RowFault>
-    ensures { IsRead (copy_line (columns_in row.now)) result }
+    ensures { IsRowRead (copy_line (columns_in row.now)) result }
 {
     let Some(parts) = copy_parts(row) else {
         return Err(RowFault::Refused(BadRow));
@@ -79,7 +79,7 @@ fn copy_line(alloc: Global, row: &RowFields<'_>) -> Result<CopyLine, RowFault>
 }
 
 fn record_line(alloc: Global, row: &RowFields<'_>) -> Result<RecordLine, RowFault>
-    ensures { IsRead (record_line (columns_in row.now)) result }
+    ensures { IsRowRead (record_line (columns_in row.now)) result }
 {
     let Some(parts) = record_parts(row) else {
         return Err(RowFault::Refused(BadRow));
@@ -98,7 +98,7 @@ fn version_line(
     edition: Edition,
     row: &RowFields<'_>,
 ) -> Result<VersionLine, RowFault>
-    ensures value { IsRead (within edition (λ line. Version line)
+    ensures value { IsRowRead (within edition (λ line. Version line)
         (version_line (columns_in row.now))) result }
     ensures reasoned { IfOk result (λ line. HasReasonUnlessFirst line.number line.reason) }
 {
@@ -123,7 +123,7 @@ fn version_line(
 
 // Whether a copy of the edition may have the version.
 fn has_version(edition: Edition, parts: &VersionRowParts<'_>) -> bool
-    ensures { result ≡ is_of_edition edition (Version (version_of parts.now)) }
+    ensures { result ≡ is_of_edition edition (Version (version_line_of parts.now)) }
 {
     match edition {
         Edition::Two => true,
@@ -142,7 +142,7 @@ fn is_older(format: Format, state: State) -> bool
 }
 
 fn entry_line(alloc: Global, row: &RowFields<'_>) -> Result<EntryLine, RowFault>
-    ensures { IsRead (entry_line (columns_in row.now)) result }
+    ensures { IsRowRead (entry_line (columns_in row.now)) result }
 {
     let Some(parts) = entry_parts(row) else {
         return Err(RowFault::Refused(BadRow));
@@ -167,7 +167,7 @@ fn signature_line(
     edition: Edition,
     row: &RowFields<'_>,
 ) -> Result<SignatureLine, RowFault>
-    ensures { IsRead (within edition (λ line. Signature line)
+    ensures { IsRowRead (within edition (λ line. Signature line)
         (signature_line (columns_in row.now))) result }
 {
     let Some(parts) = signature_parts(row) else {
@@ -202,13 +202,13 @@ fn has_signature(edition: Edition, parts: &SignatureParts<'_>) -> bool
 }
 
 fn is_approval(meaning: MeaningParts<'_>) -> bool
-    ensures { result ≡ is_approval (meaning_of meaning.entry) }
+    ensures { result ≡ is_approval (meaning_in_row meaning.entry) }
 {
     matches!(meaning, MeaningParts::Approval)
 }
 
 fn end_line(alloc: Global, row: &RowFields<'_>) -> Result<EndLine, RowFault>
-    ensures { IsRead (end_line (columns_in row.now)) result }
+    ensures { IsRowRead (end_line (columns_in row.now)) result }
 {
     let Some(parts) = end_parts(row) else {
         return Err(RowFault::Refused(BadRow));

@@ -3,7 +3,7 @@
 ghost use Rattle.std.specs.Prelude.{◌≡◌, IfSome, option_map};
 ghost use Rattle.lab_copy_rows.specs.Reading.{version_line, entry_line, signature_line};
 ghost use Rattle.lab_copy_lines.specs.Fields.{columns_in};
-ghost use Rattle.lab_copy_lines.specs.VersionRowParts.{AreEntryTexts, AreSignatureTexts, AreVersionTexts, entry_of, signature_of, version_of};
+ghost use Rattle.lab_copy_lines.specs.VersionRowParts.{AreEntryTexts, AreSignatureTexts, AreVersionTexts, entry_of, signature_of, version_line_of};
 
 use crate::fields::MeaningParts;
 use crate::{RowFields, fields};
@@ -55,7 +55,7 @@ pub struct SignatureParts<'a> {
 /// Reads what a version row stands for.
 #[tactic(auto, unfolding(lab_copy_rows::specs::Reading::version_line))]
 pub fn version_parts<'a>(row: &RowFields<'a>) -> Option<VersionRowParts<'a>>
-    ensures value { option_map version_of result ≡ version_line (columns_in row.now) }
+    ensures value { option_map version_line_of result ≡ version_line (columns_in row.now) }
     ensures texts { IfSome result AreVersionTexts }
 {
     let (Some(lab), Some(record_number), Some(number)) = (

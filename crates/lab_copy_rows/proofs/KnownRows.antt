@@ -13,7 +13,7 @@ use Rattle.lab_forms_texts.specs.Calendar.{days_of_spans, span_of, place_of, pla
 use Rattle.lab_forms_texts.specs.Moment.{moment_of, moment_text}
 use Rattle.lab_forms_texts.specs.Names.{is_lab_code, is_person_code, is_key, is_name, is_note, is_unit}
 use Rattle.lab_seal_hashes.specs.Digits.{bytes_of_digits}
-use Rattle.lab_seal.specs.Reading.{number_of}
+use Rattle.lab_seal.specs.Reading.{number_written}
 use Rattle.lab_seal_versions.specs.Versions.{item, heading_text, subject_text, origin_text, opening_text, row_text, front_text, version_text}
 use Rattle.lab_seal_versions.specs.Seals.{signer_text, signing_text, seal_text}
 use Rattle.lab_copy_rows.specs.Copies.{verdict, verdict_after, flaw_of_line, flaw_at_end, flaw_of_signature, flaw_of_last_version, last_told, is_in_place}
@@ -91,40 +91,40 @@ found rows = verdict (first_rows ++ rows)
 
 pub as_it_was_written : found (sound_version ∷ sound_entry ∷ authored ∷ sound_review ∷ sound_end ∷ [])
     ≡ Ok (record { records = 1; versions = 1; entries = 1; signatures = 2 })
-unfolding verdict verdict_after flaw_of_line flaw_at_end flaw_of_signature flaw_of_last_version last_told is_in_place line_of copy_line record_line version_line entry_line signature_line end_line number_of moment_of days_of_spans moment_text year_of place_in_year month_of day_of_month hour_of minute_of second_of span_of place_of is_lab_code is_person_code is_key is_name is_note is_unit is_utf8 chars encode digits bytes_of_digits decode_pairs encode_with version_text front_text heading_text subject_text origin_text opening_text row_text item seal_text signer_text signing_text sha256 hash_after compress rounds schedule first_words digest_bytes
+unfolding verdict verdict_after flaw_of_line flaw_at_end flaw_of_signature flaw_of_last_version last_told is_in_place line_of copy_line record_line version_line entry_line signature_line end_line number_written moment_of days_of_spans moment_text year_of place_in_year month_of day_of_month hour_of minute_of second_of span_of place_of is_lab_code is_person_code is_key is_name is_note is_unit is_utf8 chars encode digits bytes_of_digits decode_pairs encode_with version_text front_text heading_text subject_text origin_text opening_text row_text item seal_text signer_text signing_text sha256 hash_after compress rounds schedule first_words digest_bytes
 as_it_was_written = refl
 
 pub name_changed : found (sound_version ∷ sound_entry ∷ authored ∷ reviewed (codes "Eve Edan") ∷ sound_end ∷ [])
     ≡ Err (Seal 7)
-unfolding verdict verdict_after flaw_of_line flaw_at_end flaw_of_signature flaw_of_last_version last_told is_in_place line_of copy_line record_line version_line entry_line signature_line end_line number_of moment_of days_of_spans moment_text year_of place_in_year month_of day_of_month hour_of minute_of second_of span_of place_of is_lab_code is_person_code is_key is_name is_note is_unit is_utf8 chars encode digits bytes_of_digits decode_pairs encode_with version_text front_text heading_text subject_text origin_text opening_text row_text item seal_text signer_text signing_text sha256 hash_after compress rounds schedule first_words digest_bytes
+unfolding verdict verdict_after flaw_of_line flaw_at_end flaw_of_signature flaw_of_last_version last_told is_in_place line_of copy_line record_line version_line entry_line signature_line end_line number_written moment_of days_of_spans moment_text year_of place_in_year month_of day_of_month hour_of minute_of second_of span_of place_of is_lab_code is_person_code is_key is_name is_note is_unit is_utf8 chars encode digits bytes_of_digits decode_pairs encode_with version_text front_text heading_text subject_text origin_text opening_text row_text item seal_text signer_text signing_text sha256 hash_after compress rounds schedule first_words digest_bytes
 name_changed = refl
 
 pub value_changed : found (sound_version ∷ entered (codes "aqua") (codes "7.51") ∷ authored ∷ sound_review ∷ sound_end ∷ [])
     ≡ Err (Digest 4)
-unfolding verdict verdict_after flaw_of_line flaw_at_end flaw_of_signature flaw_of_last_version last_told is_in_place line_of copy_line record_line version_line entry_line signature_line end_line number_of moment_of days_of_spans moment_text year_of place_in_year month_of day_of_month hour_of minute_of second_of span_of place_of is_lab_code is_person_code is_key is_name is_note is_unit is_utf8 chars encode digits bytes_of_digits decode_pairs encode_with version_text front_text heading_text subject_text origin_text opening_text row_text item seal_text signer_text signing_text sha256 hash_after compress rounds schedule first_words digest_bytes
+unfolding verdict verdict_after flaw_of_line flaw_at_end flaw_of_signature flaw_of_last_version last_told is_in_place line_of copy_line record_line version_line entry_line signature_line end_line number_written moment_of days_of_spans moment_text year_of place_in_year month_of day_of_month hour_of minute_of second_of span_of place_of is_lab_code is_person_code is_key is_name is_note is_unit is_utf8 chars encode digits bytes_of_digits decode_pairs encode_with version_text front_text heading_text subject_text origin_text opening_text row_text item seal_text signer_text signing_text sha256 hash_after compress rounds schedule first_words digest_bytes
 value_changed = refl
 
 pub signatures_exchanged : found (sound_version ∷ sound_entry ∷ sound_review ∷ authored ∷ sound_end ∷ [])
     ≡ Err (OnePerson 4)
-unfolding verdict verdict_after flaw_of_line flaw_at_end flaw_of_signature flaw_of_last_version last_told is_in_place line_of copy_line record_line version_line entry_line signature_line end_line number_of moment_of days_of_spans moment_text year_of place_in_year month_of day_of_month hour_of minute_of second_of span_of place_of is_lab_code is_person_code is_key is_name is_note is_unit is_utf8 chars encode digits bytes_of_digits decode_pairs encode_with version_text front_text heading_text subject_text origin_text opening_text row_text item seal_text signer_text signing_text sha256 hash_after compress rounds schedule first_words digest_bytes
+unfolding verdict verdict_after flaw_of_line flaw_at_end flaw_of_signature flaw_of_last_version last_told is_in_place line_of copy_line record_line version_line entry_line signature_line end_line number_written moment_of days_of_spans moment_text year_of place_in_year month_of day_of_month hour_of minute_of second_of span_of place_of is_lab_code is_person_code is_key is_name is_note is_unit is_utf8 chars encode digits bytes_of_digits decode_pairs encode_with version_text front_text heading_text subject_text origin_text opening_text row_text item seal_text signer_text signing_text sha256 hash_after compress rounds schedule first_words digest_bytes
 signatures_exchanged = refl
 
 pub review_left_out : (found (sound_version ∷ sound_entry ∷ authored ∷ sound_end ∷ []) ≡ Err (Order 7))
     × (found (sound_version ∷ sound_entry ∷ authored ∷ ended (codes "1") (codes "1") ∷ []) ≡ Err (OnePerson 4))
-unfolding verdict verdict_after flaw_of_line flaw_at_end flaw_of_signature flaw_of_last_version last_told is_in_place line_of copy_line record_line version_line entry_line signature_line end_line number_of moment_of days_of_spans moment_text year_of place_in_year month_of day_of_month hour_of minute_of second_of span_of place_of is_lab_code is_person_code is_key is_name is_note is_unit is_utf8 chars encode digits bytes_of_digits decode_pairs encode_with version_text front_text heading_text subject_text origin_text opening_text row_text item seal_text signer_text signing_text sha256 hash_after compress rounds schedule first_words digest_bytes
+unfolding verdict verdict_after flaw_of_line flaw_at_end flaw_of_signature flaw_of_last_version last_told is_in_place line_of copy_line record_line version_line entry_line signature_line end_line number_written moment_of days_of_spans moment_text year_of place_in_year month_of day_of_month hour_of minute_of second_of span_of place_of is_lab_code is_person_code is_key is_name is_note is_unit is_utf8 chars encode digits bytes_of_digits decode_pairs encode_with version_text front_text heading_text subject_text origin_text opening_text row_text item seal_text signer_text signing_text sha256 hash_after compress rounds schedule first_words digest_bytes
 review_left_out = (refl, refl)
 
 pub digest_changed : found (made (codes "released") (codes "79610b0b80020b06ccc32eb56d5e2930ad6cea239d32569de11013459ebf2b00") ∷ sound_entry ∷ authored ∷ sound_review ∷ sound_end ∷ [])
     ≡ Err (Digest 6)
-unfolding verdict verdict_after flaw_of_line flaw_at_end flaw_of_signature flaw_of_last_version last_told is_in_place line_of copy_line record_line version_line entry_line signature_line end_line number_of moment_of days_of_spans moment_text year_of place_in_year month_of day_of_month hour_of minute_of second_of span_of place_of is_lab_code is_person_code is_key is_name is_note is_unit is_utf8 chars encode digits bytes_of_digits decode_pairs encode_with version_text front_text heading_text subject_text origin_text opening_text row_text item seal_text signer_text signing_text sha256 hash_after compress rounds schedule first_words digest_bytes
+unfolding verdict verdict_after flaw_of_line flaw_at_end flaw_of_signature flaw_of_last_version last_told is_in_place line_of copy_line record_line version_line entry_line signature_line end_line number_written moment_of days_of_spans moment_text year_of place_in_year month_of day_of_month hour_of minute_of second_of span_of place_of is_lab_code is_person_code is_key is_name is_note is_unit is_utf8 chars encode digits bytes_of_digits decode_pairs encode_with version_text front_text heading_text subject_text origin_text opening_text row_text item seal_text signer_text signing_text sha256 hash_after compress rounds schedule first_words digest_bytes
 digest_changed = refl
 
 pub end_left_out : (found (sound_version ∷ sound_entry ∷ authored ∷ sound_review ∷ []) ≡ Err NoEnd) × (verdict [] ≡ Err NoEnd)
-unfolding verdict verdict_after flaw_of_line flaw_at_end flaw_of_signature flaw_of_last_version last_told is_in_place line_of copy_line record_line version_line entry_line signature_line end_line number_of moment_of days_of_spans moment_text year_of place_in_year month_of day_of_month hour_of minute_of second_of span_of place_of is_lab_code is_person_code is_key is_name is_note is_unit is_utf8 chars encode digits bytes_of_digits decode_pairs encode_with version_text front_text heading_text subject_text origin_text opening_text row_text item seal_text signer_text signing_text sha256 hash_after compress rounds schedule first_words digest_bytes
+unfolding verdict verdict_after flaw_of_line flaw_at_end flaw_of_signature flaw_of_last_version last_told is_in_place line_of copy_line record_line version_line entry_line signature_line end_line number_written moment_of days_of_spans moment_text year_of place_in_year month_of day_of_month hour_of minute_of second_of span_of place_of is_lab_code is_person_code is_key is_name is_note is_unit is_utf8 chars encode digits bytes_of_digits decode_pairs encode_with version_text front_text heading_text subject_text origin_text opening_text row_text item seal_text signer_text signing_text sha256 hash_after compress rounds schedule first_words digest_bytes
 end_left_out = (refl, refl)
 
 pub end_twice : found (sound_version ∷ sound_entry ∷ authored ∷ sound_review ∷ sound_end ∷ sound_end ∷ []) ≡ Err (Order 9)
-unfolding verdict verdict_after flaw_of_line flaw_at_end flaw_of_signature flaw_of_last_version last_told is_in_place line_of copy_line record_line version_line entry_line signature_line end_line number_of moment_of days_of_spans moment_text year_of place_in_year month_of day_of_month hour_of minute_of second_of span_of place_of is_lab_code is_person_code is_key is_name is_note is_unit is_utf8 chars encode digits bytes_of_digits decode_pairs encode_with version_text front_text heading_text subject_text origin_text opening_text row_text item seal_text signer_text signing_text sha256 hash_after compress rounds schedule first_words digest_bytes
+unfolding verdict verdict_after flaw_of_line flaw_at_end flaw_of_signature flaw_of_last_version last_told is_in_place line_of copy_line record_line version_line entry_line signature_line end_line number_written moment_of days_of_spans moment_text year_of place_in_year month_of day_of_month hour_of minute_of second_of span_of place_of is_lab_code is_person_code is_key is_name is_note is_unit is_utf8 chars encode digits bytes_of_digits decode_pairs encode_with version_text front_text heading_text subject_text origin_text opening_text row_text item seal_text signer_text signing_text sha256 hash_after compress rounds schedule first_words digest_bytes
 end_twice = refl
 
 -- another laboratory in one row, a row cut short, a header cut short, an older copy with newer versions
@@ -132,13 +132,13 @@ pub rows_refused : (found (sound_version ∷ entered (codes "brick") (codes "7.5
     × (found (sound_version ∷ (codes "entry" ∷ codes "aqua" ∷ []) ∷ []) ≡ Err (BadRow 5))
     × (verdict ((codes "kind" ∷ codes "lab" ∷ []) ∷ []) ≡ Err (BadRow 1))
     × (verdict (fields_in header_row ∷ asked (codes "1") ∷ about ∷ sound_version ∷ []) ≡ Err (BadRow 4))
-unfolding verdict verdict_after flaw_of_line flaw_at_end flaw_of_signature flaw_of_last_version last_told is_in_place line_of copy_line record_line version_line entry_line signature_line end_line number_of moment_of days_of_spans moment_text year_of place_in_year month_of day_of_month hour_of minute_of second_of span_of place_of is_lab_code is_person_code is_key is_name is_note is_unit is_utf8 chars encode digits bytes_of_digits decode_pairs encode_with version_text front_text heading_text subject_text origin_text opening_text row_text item seal_text signer_text signing_text sha256 hash_after compress rounds schedule first_words digest_bytes
+unfolding verdict verdict_after flaw_of_line flaw_at_end flaw_of_signature flaw_of_last_version last_told is_in_place line_of copy_line record_line version_line entry_line signature_line end_line number_written moment_of days_of_spans moment_text year_of place_in_year month_of day_of_month hour_of minute_of second_of span_of place_of is_lab_code is_person_code is_key is_name is_note is_unit is_utf8 chars encode digits bytes_of_digits decode_pairs encode_with version_text front_text heading_text subject_text origin_text opening_text row_text item seal_text signer_text signing_text sha256 hash_after compress rounds schedule first_words digest_bytes
 rows_refused = (refl, refl, refl, refl)
 
 -- no record of the range
 pub nothing_asked : verdict (fields_in header_row ∷ asked (codes "2") ∷ (codes "end" ∷ codes "aqua" ∷ codes "0" ∷ codes "0" ∷ codes "0" ∷ codes "0" ∷ [] ∷ [] ∷ [] ∷ [] ∷ [] ∷ [] ∷ [] ∷ []) ∷ [])
     ≡ Ok (record { records = 0; versions = 0; entries = 0; signatures = 0 })
-unfolding verdict verdict_after flaw_of_line flaw_at_end flaw_of_signature flaw_of_last_version last_told is_in_place line_of copy_line record_line version_line entry_line signature_line end_line number_of moment_of days_of_spans moment_text year_of place_in_year month_of day_of_month hour_of minute_of second_of span_of place_of is_lab_code is_person_code is_key is_name is_note is_unit is_utf8 chars encode digits bytes_of_digits decode_pairs encode_with version_text front_text heading_text subject_text origin_text opening_text row_text item seal_text signer_text signing_text sha256 hash_after compress rounds schedule first_words digest_bytes
+unfolding verdict verdict_after flaw_of_line flaw_at_end flaw_of_signature flaw_of_last_version last_told is_in_place line_of copy_line record_line version_line entry_line signature_line end_line number_written moment_of days_of_spans moment_text year_of place_in_year month_of day_of_month hour_of minute_of second_of span_of place_of is_lab_code is_person_code is_key is_name is_note is_unit is_utf8 chars encode digits bytes_of_digits decode_pairs encode_with version_text front_text heading_text subject_text origin_text opening_text row_text item seal_text signer_text signing_text sha256 hash_after compress rounds schedule first_words digest_bytes
 nothing_asked = refl
 
 -- the copy from 3 to 5 of a laboratory that has no such record, as text

@@ -19,7 +19,7 @@ use Rattle.lab_seal_versions.specs.States.{state_word}
 use Rattle.std.specs.Prelude.{decimal}
 use Rattle.lab_copy_rows.specs.Lines.{IsPersonOrNone, IsVersionReason, IsMeaning, IsCopyLine, IsRecordLine, IsVersionLine, IsEntryLine, IsSignatureLine, IsEndLine, IsLine}
 use Rattle.lab_copy_rows.specs.Reading.{all_empty, person_in, edition_in, format_in, state_in, meaning_in, version_reason_in, count_in, last_count, copy_line, record_line, version_line, entry_line, signature_line, end_line, line_of}
-use Rattle.lab_copy_rows.specs.Rows.{edition_key, format_key, approval_name, optional_text, copy_row, record_row, version_row, entry_row, signature_row, end_row, row_of}
+use Rattle.lab_copy_rows.specs.Rows.{edition_key, format_key, approval_name, optional_text, copy_row, record_row, version_row, entry_row, signature_row, end_row, columns_of_line}
 use Rattle.lab_copy_rows.specs.declared.lines.Edition.{Edition}
 use Rattle.lab_copy_rows.specs.declared.lines.Edition.TheVariants as edition
 use Rattle.lab_copy_rows.specs.declared.lines.CopyLine.{CopyLine}
@@ -178,7 +178,7 @@ end_back line is =
       count_back line.counts.signatures is.signatures,
     ) refl
 
-pub read_back : (line : Line) → IsLine line → line_of (row_of line) ≡ Some line
+pub read_back : (line : Line) → IsLine line → line_of (columns_of_line line) ≡ Some line
 unfolding line_of
 read_back (Copy line) is = ap (option_map (λ (told : CopyLine). Copy told)) (copy_back line is)
 read_back (Record line) is = ap (option_map (λ (told : RecordLine). Record told)) (record_back line is)

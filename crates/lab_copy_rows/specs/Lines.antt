@@ -9,7 +9,7 @@ use Rattle.lab_seal_versions.specs.Versions.{IsDigest, IsRow}
 use Rattle.lab_seal_versions.specs.declared.seals.Meaning.{Meaning}
 use Rattle.lab_seal_versions.specs.declared.seals.Meaning.TheVariants.{Authorship, Review, Rejection, Approval}
 use Rattle.lab_copy_rows.specs.Reading.{last_count, line_of}
-use Rattle.lab_copy_rows.specs.Rows.{row_of}
+use Rattle.lab_copy_rows.specs.Rows.{columns_of_line}
 use Rattle.lab_copy_rows.specs.declared.lines.CopyLine.{CopyLine}
 use Rattle.lab_copy_rows.specs.declared.lines.RecordLine.{RecordLine}
 use Rattle.lab_copy_rows.specs.declared.lines.VersionLine.{VersionLine}
@@ -93,4 +93,4 @@ IsLine (End line) = IsEndLine line
 
 -- the row of a line stands for that line
 abbrev pub RowsReadBack : Type 0
-RowsReadBack = (line : Line) → IsLine line → line_of (row_of line) ≡ Some line
+RowsReadBack = (line : Line) → IsLine line → line_of (columns_of_line line) ≡ Some line

@@ -6,7 +6,7 @@ use Rattle.std.specs.Str.{bytes_eq}
 use Rattle.lab_forms_texts.specs.Names.{is_lab_code, is_person_code, is_key, is_name, is_note, is_unit}
 use Rattle.lab_seal_hashes.specs.Digits.{bytes_of_digits}
 use Rattle.lab_seal_versions.specs.Origins.{first_number}
-use Rattle.lab_seal.specs.Reading.{◌>>=◌, number_of, text_where, ordinal_in, reason_in, moment_in}
+use Rattle.lab_seal.specs.Reading.{◌>>=◌, number_written, text_where, ordinal_in, reason_in, moment_in}
 use Rattle.lab_seal_versions.specs.declared.versions.Format.{Format}
 use Rattle.lab_seal_versions.specs.declared.versions.Format.TheVariants as format
 use Rattle.lab_seal_versions.specs.declared.seals.Meaning.{Meaning}
@@ -64,7 +64,7 @@ last_count = 1000000000000
 -- a number of rows
 abbrev pub count_in : List ℕ → Option ℕ
 count_in digits =
-    number_of digits >>= (λ count. if nat_le count last_count then Some count else None)
+    number_written digits >>= (λ count. if nat_le count last_count then Some count else None)
 
 abbrev pub edition_in : List ℕ → Option Edition
 edition_in key =

@@ -174,10 +174,10 @@ end_row line = record (row_of_kind (codes "end") line.lab) {
 }
 
 -- the row of a line
-abbrev pub row_of : Line → Columns
-row_of (Copy line) = copy_row line
-row_of (Record line) = record_row line
-row_of (Version line) = version_row line
-row_of (Entry line) = entry_row line
-row_of (Signature line) = signature_row line
-row_of (End line) = end_row line
+abbrev pub columns_of_line : Line → Columns
+columns_of_line (Copy line) = copy_row line
+columns_of_line (Record line) = record_row line
+columns_of_line (Version line) = version_row line
+columns_of_line (Entry line) = entry_row line
+columns_of_line (Signature line) = signature_row line
+columns_of_line (End line) = end_row line

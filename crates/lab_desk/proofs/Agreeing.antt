@@ -11,19 +11,19 @@ use Rattle.lab_records_machine.specs.Machine.{step}
 use Rattle.lab_wire.specs.declared.commands.Asked.{Asked}
 use Rattle.lab_wire.specs.declared.replies.Answer.TheVariants.{Replied}
 use Rattle.lab_wire.specs.Replies.{memory_text, reply_text}
-use Rattle.lab_desk_events.specs.Requests.{Asks, Steps, TakesRequest, RefusesRequest, answer_to}
+use Rattle.lab_desk_events.specs.Requests.{AskedInBytes, Steps, TakesRequest, RefusesRequest, answer_to}
 use Rattle.lab_desk.specs.Twins.{Agree, AgreeOnAsked, IsElsewhere, SameButForMemory, both}
 
 -- ---- one keeper
 
 -- a laboratory that the bytes don't name means what it meant, where the request was taken
-steps_elsewhere : (old new : Meaning) (tick : Tick) (asks : Asks) (code : List ℕ) →
+steps_elsewhere : (old new : Meaning) (tick : Tick) (asks : AskedInBytes) (code : List ℕ) →
     Steps tick asks old new → IsElsewhere asks code → new code ≡ old code
 steps_elsewhere old new tick (Err refusal) code steps other = steps code
 steps_elsewhere old new tick (Ok asked) code steps other = steps.others code other
 
 -- and also where it was refused
-pub stays_elsewhere : (old new : World) (tick : Tick) (asks : Asks) (is_taken : Bool)
+pub stays_elsewhere : (old new : World) (tick : Tick) (asks : AskedInBytes) (is_taken : Bool)
     (reply code : List ℕ) →
     (is_taken ≡ true → TakesRequest old new tick asks reply) →
     (is_taken ≡ false → RefusesRequest old new tick asks reply) →
@@ -52,7 +52,7 @@ step_alike old new other_old other_new tick asked code false names steps other_s
     false≢true (sym names ∙ (bytes_eq-Decides asked.lab code).1 (sym same)) in
     steps.others code elsewhere ∙ agree ∙ sym (other_steps.others code elsewhere)
 
-steps_agree : (old new other_old other_new : Meaning) (tick : Tick) (asks : Asks)
+steps_agree : (old new other_old other_new : Meaning) (tick : Tick) (asks : AskedInBytes)
     (code : List ℕ) → Steps tick asks old new → Steps tick asks other_old other_new →
     Agree old other_old code → Agree new other_new code
 steps_agree old new other_old other_new tick (Err refusal) code steps other_steps agree =
@@ -62,7 +62,7 @@ steps_agree old new other_old other_new tick (Ok asked) code steps other_steps a
     steps other_steps agree
 
 -- both took the request, or both refused it
-pub still_agree : (old new other_old other_new : World) (tick : Tick) (asks : Asks)
+pub still_agree : (old new other_old other_new : World) (tick : Tick) (asks : AskedInBytes)
     (is_taken : Bool) (reply other_reply code : List ℕ) →
     (is_taken ≡ true → TakesRequest old new tick asks reply) →
     (is_taken ≡ false → RefusesRequest old new tick asks reply) →
@@ -88,7 +88,7 @@ same_but_for_memory one other text (inr memory) other_reply = inr (inl memory)
 same_but_for_memory one other text (inl is) (inr memory) = inr (inr memory)
 
 -- the answer to what bytes ask is one, where the laboratory that they name is
-same_answer : (one other : World) (tick : Tick) (asks : Asks) → (IsOk asks → one.is_live) →
+same_answer : (one other : World) (tick : Tick) (asks : AskedInBytes) → (IsOk asks → one.is_live) →
     (IsOk asks → other.is_live) → AgreeOnAsked (both one other) asks →
     answer_to one.meaning tick asks ≡ answer_to other.meaning tick asks
 same_answer one other tick (Err refusal) live other_live agree = refl
@@ -97,7 +97,7 @@ same_answer one other tick (Ok asked) live other_live agree =
     (agree (live refl) (other_live refl))
 
 -- and so is the reply, where both took the request
-pub same_reply : (old new other_old other_new : World) (tick : Tick) (asks : Asks)
+pub same_reply : (old new other_old other_new : World) (tick : Tick) (asks : AskedInBytes)
     (reply other_reply : List ℕ) → TakesRequest old new tick asks reply →
     TakesRequest other_old other_new tick asks other_reply →
     AgreeOnAsked (both old other_old) asks → reply ≡ other_reply

@@ -14,11 +14,11 @@ use Rattle.lab_wire.specs.declared.commands.Asked.{Asked}
 use Rattle.lab_wire.specs.declared.refusals.RequestRefusal.{RequestRefusal}
 use Rattle.lab_wire.specs.declared.replies.Answer.TheVariants.{Refused}
 use Rattle.lab_wire.specs.Replies.{reply_text, memory_text}
-use Rattle.lab_desk_events.specs.Calls.{Ends}
+use Rattle.lab_desk_events.specs.Calls.{EndsCall}
 use Rattle.lab_records_copy_out.specs.Legible.{IsLegibleChange}
 use Rattle.lab_desk_events.specs.Copies.{IsAskedLegibly}
 use Rattle.lab_desk_events.specs.Keeping.{AreWithin, GivenWithin, Stays}
-use Rattle.lab_desk_events.specs.Requests.{Asks, DoesStep, IsRefusedReply, TellsFault, answer_to, changes_for, is_idle}
+use Rattle.lab_desk_events.specs.Requests.{AskedInBytes, DoesStep, IsRefusedReply, TellsFault, answer_to, changes_for, is_idle}
 use Rattle.lab_desk_events.proofs.Copying.{asked_legible, sound_answer}
 use Rattle.lab_desk_events.proofs.Keeping.{asked_keeps}
 use Rattle.lab_desk_events.proofs.Lasting.{still_stays}
@@ -76,7 +76,7 @@ module _ {S : Type 0} (keeper : Ghosts S) (kept : S) (tick : Tick) (is_taken : B
   }
 
   -- whatever was asked: there was no memory for it
-  pub exhausted_so : (asks : Asks) → is_taken ≡ false → reply ≡ memory_text →
+  pub exhausted_so : (asks : AskedInBytes) → is_taken ≡ false → reply ≡ memory_text →
       Handles keeper kept kept
       (record { tick = tick; asks = asks; is_taken = is_taken; reply = reply })
   exhausted_so asks not told = record {
@@ -98,7 +98,7 @@ module _ {S : Type 0} (keeper : Ghosts S) (kept : S) (tick : Tick) (is_taken : B
 -- ---- bytes that ask a laboratory something
 
 -- the reply that tells a keeper's fault
-refused_reply : (may_refuse : Type 0) (asks : Asks) (tick : Tick) (reply : List ℕ)
+refused_reply : (may_refuse : Type 0) (asks : AskedInBytes) (tick : Tick) (reply : List ℕ)
     (fault : Fault BadStore) → KeeperFaultFits may_refuse fault → IsOk asks →
     TellsFault tick reply fault → IsRefusedReply (may_refuse × IsOk asks) tick reply
 refused_reply may_refuse asks tick reply Memory fits asked told = inl told
@@ -114,7 +114,7 @@ pub record IsKept {S A : Type 0} (keeper : Ghosts S) (old new : S) (tick : Tick)
   pub within : GivenWithin (keeper.world old) (keeper.world new) (AreWithin (keeper.world new))
   pub told : Given (keeper.world old) (keeper.world new) (IfOk answered (λ answer.
       items answer ≡ reply_text tick (answer_to (keeper.world old).meaning tick (Ok asked))))
-  pub ends : Ends (keeper.world old) (keeper.world new) (keeper.rests old new) answered
+  pub ends : EndsCall (keeper.world old) (keeper.world new) (keeper.rests old new) answered
   pub quiet : IsTrue (is_idle ((keeper.world old).meaning asked.lab) tick asked.instruction) →
       Given (keeper.world old) (keeper.world new) (Quiet (keeper.world old) (keeper.world new))
   pub does : GivenWithin (keeper.world old) (keeper.world new)

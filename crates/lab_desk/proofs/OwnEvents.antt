@@ -2,7 +2,7 @@
 use Rattle.std.proofs.Common.{◌≡◌, ℕ, Bool, List, [], ◌∷◌, None, refl, sym, ◌∙◌, ap, cond, map}
 use Rattle.std.specs.List.{cons_option}
 use Rattle.lab_desk_events.specs.Alone.{Own, Happening, own_of}
-use Rattle.lab_desk_events.specs.Runs.{Handled, IsTold, own_in, own_events}
+use Rattle.lab_desk_events.specs.Runs.{Handled, IsAccountOf, own_in, own_events}
 
 -- the own events among these, of which these were taken
 abbrev own_told : List ℕ → List Happening → List Bool → List Own
@@ -20,7 +20,7 @@ own_events_told code (one ∷ others) =
     ap (λ (owns : List Own). cons_option (own_in code one) owns) (own_events_told code others)
 
 own_events_as_told : (code : List ℕ) (events : List Happening) (taken : List Bool)
-    (handled : List Handled) → IsTold events taken handled →
+    (handled : List Handled) → IsAccountOf events taken handled →
     own_events code handled ≡ own_told code events taken
 own_events_as_told code events taken handled told =
     own_events_told code handled
@@ -29,7 +29,7 @@ own_events_as_told code events taken handled told =
     ∙ ap (λ (all : List Bool). own_told code events all) told.taken_are
 
 pub same_own_events : (events : List Happening) (taken : List Bool) (handled others : List Handled)
-    (code : List ℕ) → IsTold events taken handled → IsTold events taken others →
+    (code : List ℕ) → IsAccountOf events taken handled → IsAccountOf events taken others →
     own_events code handled ≡ own_events code others
 same_own_events events taken handled others code told other_told =
     own_events_as_told code events taken handled told

@@ -10,7 +10,7 @@ use Rattle.lab_wire_received.specs.Receptions.{IsReception}
 use Rattle.lab_wire.specs.Commands.{command_asked}
 use Rattle.lab_wire.specs.declared.refusals.RequestRefusal.TheVariants.{Head}
 use Rattle.lab_wire.specs.Asked.{asked, of_request}
-use Rattle.lab_desk_events.specs.Requests.{Asks}
+use Rattle.lab_desk_events.specs.Requests.{AskedInBytes}
 use Rattle.lab_desk.specs.Serving.{AreAsked}
 
 -- ---- what is asked
@@ -31,7 +31,7 @@ refused_as None refusal exact = tt
 refused_as (Some bytes) refusal exact = sym (ap (of_request command_asked) exact)
 
 -- whatever the bytes are, they ask something or are refused
-pub some_asked : (known : Option (List ℕ)) → (asks : Asks) × AreAsked known asks
+pub some_asked : (known : Option (List ℕ)) → (asks : AskedInBytes) × AreAsked known asks
 some_asked None = (Err (Head BadHead), tt)
 some_asked (Some bytes) = (asked bytes, refl)
 

@@ -6,7 +6,7 @@ use Rattle.lab_records_keeper.specs.declared.keeper.Keeper.{Ghosts}
 use Rattle.lab_records_keeper.specs.Worlds.{Given, Leaves, Lives, Passes, Quiet}
 use Rattle.lab_desk_events.specs.Keeping.{GivenWithin, Stays}
 
-pub record Answers {S : Type 0} (keeper : Ghosts S) (old new : S)
+pub record AnswersRequest {S : Type 0} (keeper : Ghosts S) (old new : S)
     (result : Result (Unit {0}) (Fault BadStore)) : Type 0 where
   pub lives : Given (keeper.world old) (keeper.world new)
       (OnOk result (Lives (keeper.world old) (keeper.world new)))

@@ -9,27 +9,27 @@ use Rattle.lab_wire.specs.declared.replies.Answer.TheVariants.{Refused}
 use Rattle.lab_wire.specs.Replies.{reply_text, memory_text}
 use Rattle.lab_desk_events.specs.Copies.{IsSoundAnswer}
 use Rattle.lab_desk_events.specs.Keeping.{AreLegible, AreReleasing, GivenWithin, Stays}
-use Rattle.lab_desk_events.specs.Requests.{Asks, MovesBy, RefusesRequest, Steps, TakesRequest, is_idle_request}
+use Rattle.lab_desk_events.specs.Requests.{AskedInBytes, MovesBy, RefusesRequest, Steps, TakesRequest, is_idle_request}
 
 -- a request, and how it was handled
 pub record Handling : Type 0 where
   -- the moment and the random words at which it came
   pub tick : Tick
   -- what its bytes ask
-  pub asks : Asks
+  pub asks : AskedInBytes
   -- whether it was taken
   pub is_taken : Bool
   -- what was replied
   pub reply : List ℕ
 
 -- the reply to bytes that ask nothing: that of their refusal, or that for lack of memory
-abbrev pub IsNobodysReply : Tick → Asks → List ℕ → Type 0
+abbrev pub IsNobodysReply : Tick → AskedInBytes → List ℕ → Type 0
 IsNobodysReply tick asks reply =
     (refusal : RequestRefusal) → asks ≡ Err refusal →
     (reply ≡ reply_text tick (Refused refusal)) ⊎ (reply ≡ memory_text)
 
 -- the rows after what bytes ask: at rest where they ask nothing, and else moved by the step
-abbrev pub RowsMove : {S : Type 0} → Ghosts S → S → S → Tick → Asks → Type 0
+abbrev pub RowsMove : {S : Type 0} → Ghosts S → S → S → Tick → AskedInBytes → Type 0
 RowsMove keeper old new tick (Err refusal) = keeper.rests old new
 RowsMove keeper old new tick (Ok asked) =
     MovesBy (keeper.world old).meaning tick asked (keeper.moves old new)

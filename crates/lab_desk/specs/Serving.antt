@@ -10,7 +10,7 @@ use Rattle.lab_wire.specs.Asked.{asked}
 use Rattle.lab_desk_foundings.specs.declared.run_faults.ServeFault.{ServeFault}
 use Rattle.lab_desk_foundings.specs.declared.run_faults.ServeFault.TheVariants.{Read, Interim, Reply}
 use Rattle.lab_desk_events.specs.Keeping.{GivenWithin, Stays}
-use Rattle.lab_desk_events.specs.Requests.{Asks}
+use Rattle.lab_desk_events.specs.Requests.{AskedInBytes}
 use Rattle.lab_desk.specs.Handling.{Handles}
 
 -- ---- what was handled
@@ -25,14 +25,14 @@ pub record Exchange : Type 0 where
   pub reply : List ℕ
 
 -- this is what the bytes ask that the reader had, where they are known
-abbrev pub AreAsked : Option (List ℕ) → Asks → Type 0
+abbrev pub AreAsked : Option (List ℕ) → AskedInBytes → Type 0
 AreAsked None asks = Unit {0}
 AreAsked (Some bytes) asks = asks ≡ asked bytes
 
 -- the request that the reader had was handled as `Desk::handle` handles it
 pub record HandlesRequest {S : Type 0} (keeper : Ghosts S) (old new : S)
     (exchange : Exchange) : Type 0 where
-  pub asks : Asks
+  pub asks : AskedInBytes
   pub asked_are : AreAsked exchange.known asks
   pub is_taken : Bool
   pub handles : Handles keeper old new (record {
@@ -82,12 +82,12 @@ GreetsBy interim (Err (Reply sent)) before after = ⊥
 
 -- in all: the interim answer and then the reply, or its first bytes, where the writer failed within
 -- it
-abbrev pub Writes : List ℕ → List ℕ → Result (Unit {0}) ServeFault → Option (List ℕ) →
+abbrev pub WritesReply : List ℕ → List ℕ → Result (Unit {0}) ServeFault → Option (List ℕ) →
     Option (List ℕ) → Type 0
-Writes interim reply (Ok _) before after = Appends before after (interim ++ reply)
-Writes interim reply (Err Read) before after =
+WritesReply interim reply (Ok _) before after = Appends before after (interim ++ reply)
+WritesReply interim reply (Err Read) before after =
     Appends before after interim ⊎ Appends before after []
-Writes interim reply (Err (Interim sent)) before after =
+WritesReply interim reply (Err (Interim sent)) before after =
     Appends before after (take sent interim) × (sent < length interim)
-Writes interim reply (Err (Reply sent)) before after =
+WritesReply interim reply (Err (Reply sent)) before after =
     Appends before after (interim ++ take sent reply) × (sent < length reply)

@@ -3,7 +3,7 @@ use Rattle.std.specs.Prelude.{◌≡◌, ◌≢◌, ◌⊎◌, true, ℕ, List, 
 use Rattle.lab_records_keeper.specs.Worlds.{World, Meaning, Given}
 use Rattle.lab_wire.specs.Replies.{memory_text}
 use Rattle.lab_desk_events.specs.Keeping.{AreWithin}
-use Rattle.lab_desk_events.specs.Requests.{Asks}
+use Rattle.lab_desk_events.specs.Requests.{AskedInBytes}
 use Rattle.lab_desk.specs.declared.desks.Twins.{Twins}
 
 -- ---- two keepers
@@ -33,12 +33,12 @@ AgreeOn keepers code = keepers.one.is_live → keepers.other.is_live →
     Agree keepers.one.meaning keepers.other.meaning code
 
 -- they agree on the laboratory that the bytes name, where they name one
-abbrev pub AgreeOnAsked : TwoWorlds → Asks → Type 0
+abbrev pub AgreeOnAsked : TwoWorlds → AskedInBytes → Type 0
 AgreeOnAsked keepers (Err refusal) = Unit {0}
 AgreeOnAsked keepers (Ok asked) = AgreeOn keepers asked.lab
 
 -- the laboratory of the code is another than the one that the bytes name, where they name one
-abbrev pub IsElsewhere : Asks → List ℕ → Type 0
+abbrev pub IsElsewhere : AskedInBytes → List ℕ → Type 0
 IsElsewhere (Err refusal) code = Unit {0}
 IsElsewhere (Ok asked) code = code ≢ asked.lab
 
@@ -47,7 +47,7 @@ abbrev pub StayAgreed : TwoWorlds → TwoWorlds → Type 0
 StayAgreed old new = (code : List ℕ) → AgreeOn old code → AgreeOn new code
 
 -- so they do on each but the one that the bytes name
-abbrev pub StayAgreedElsewhere : Asks → TwoWorlds → TwoWorlds → Type 0
+abbrev pub StayAgreedElsewhere : AskedInBytes → TwoWorlds → TwoWorlds → Type 0
 StayAgreedElsewhere asks old new = (code : List ℕ) → IsElsewhere asks code →
     AgreeOn old code → AgreeOn new code
 

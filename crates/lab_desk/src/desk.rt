@@ -10,7 +10,7 @@ ghost use Rattle.lab_desk_events.specs.Keeping.{Stays};
 ghost use Rattle.lab_desk_events.specs.Leaving.{Settles};
 ghost use Rattle.lab_desk_foundings.specs.Foundings.{founding_in, Founds, Births, TakesFounding, RefusesFounding, shown};
 ghost use Rattle.lab_desk_foundings.specs.Faults.{FoundFaultFits, OnBody, OnKept, OnUncommitted};
-ghost use Rattle.lab_desk.specs.Answering.{Answers};
+ghost use Rattle.lab_desk.specs.Answering.{AnswersRequest};
 ghost use Rattle.lab_desk.specs.Handling.{Handles};
 
 use lab_desk_events::{Event, answer_asked};
@@ -309,7 +309,7 @@ impl<S: Keeper + Drop> Desk<S> {
     /// # Errors
     /// The keeper's.
     pub fn answers(&mut self, lab: &LabCode) -> Result<(), KeeperFault>
-        ensures asked { Answers S.Keeper self.old.keeper self.new.keeper result }
+        ensures asked { AnswersRequest S.Keeper self.old.keeper self.new.keeper result }
         ensures reply { self.new.reply ≡ self.old.reply }
     {
         let need = Need {

@@ -7,7 +7,7 @@ ghost use Rattle.lab_records_keeper.specs.Worlds.{Passes};
 ghost use Rattle.lab_desk_events.specs.Alone.{happening};
 ghost use Rattle.lab_desk_events.specs.Keeping.{GivenWithin, Stays, StaysOn};
 ghost use Rattle.lab_desk_events.specs.Leaving.{IsLiveToLast, LeavesByOne, LeavesRun};
-ghost use Rattle.lab_desk_events.specs.Runs.{IsRun, Runs, RunsCut, Sends};
+ghost use Rattle.lab_desk_events.specs.Runs.{IsRun, Runs, RunsCut, SendsAnswer};
 ghost use Rattle.lab_desk_foundings.specs.RunFaults.{IfWrite, IfMemory};
 
 use crate::desk::Desk;
@@ -90,7 +90,7 @@ impl<S: Keeper + Drop> Desk<S> {
             ((answer : List ℕ)
             × IsRun (S.world self.old.keeper) (S.world self.new.keeper)
             (record { event = happening event.now; taken = result.taken; answer = answer } ∷ [])
-            × Sends answer result.sent (W.contents writer.old) (W.contents writer.new)) }
+            × SendsAnswer answer result.sent (W.contents writer.old) (W.contents writer.new)) }
         ensures leaves { GivenWithin (S.world self.old.keeper) (S.world self.new.keeper)
             ((S.world self.old.keeper).is_live →
             LeavesByOne (S.world self.old.keeper) (S.world self.new.keeper) (happening event.now)

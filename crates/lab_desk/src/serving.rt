@@ -4,7 +4,7 @@
 ghost use Rattle.std.specs.Prelude.{◌≡◌, ◌≤◌, ◌+◌, IfSome, OnErr};
 ghost use Rattle.lab_wire_heads.specs.Interims.{interim_text};
 ghost use Rattle.lab_wire_received.specs.Receptions.{most_asks};
-ghost use Rattle.lab_desk.specs.Serving.{OnUnhandled, GreetsBy, Serves, Writes};
+ghost use Rattle.lab_desk.specs.Serving.{OnUnhandled, GreetsBy, Serves, WritesReply};
 
 use crate::desk::Desk;
 use lab_desk_foundings::ServeFault;
@@ -37,7 +37,7 @@ impl<S: Keeper + Drop> Desk<S> {
           reply = self.new.reply;
         }) result }
         ensures written { IfSome (R.remaining reader.old) (λ bytes.
-            Writes (interim_text bytes) self.new.reply result
+            WritesReply (interim_text bytes) self.new.reply result
             (W.contents writer.old) (W.contents writer.new)) }
         ensures untouched { OnUnhandled result (self.new ≡ self.old) }
         ensures asks { R.asks reader.new ≤ R.asks reader.old + most_asks }

@@ -3,7 +3,7 @@
 ghost use Rattle.std.specs.Prelude.{◌≡◌, ℕ, List, Bool};
 ghost use Rattle.lab_records_keeper.specs.Worlds.{Meaning};
 ghost use Rattle.lab_desk_events.specs.Alone.{Happening};
-ghost use Rattle.lab_desk_events.specs.Runs.{Handled, IsTold, AreAlone, own_events, own_answers, after_run};
+ghost use Rattle.lab_desk_events.specs.Runs.{Handled, IsAccountOf, AreAlone, own_events, own_answers, after_run};
 ghost use Rattle.lab_desk.specs.Twins.{Agree};
 
 /// Law: two runs that agree on a laboratory at their starts, and in which the same events of its own
@@ -21,6 +21,6 @@ pub fn equal_events_get_equal_answers()
         Agree start other_start code → own_events code handled ≡ own_events code others →
         Agree (after_run start handled) (after_run other_start others) code }
     ensures own { (events : List Happening) (taken : List Bool) (handled others : List Handled)
-        (code : List ℕ) → IsTold events taken handled → IsTold events taken others →
+        (code : List ℕ) → IsAccountOf events taken handled → IsAccountOf events taken others →
         own_events code handled ≡ own_events code others }
 {}

@@ -22,7 +22,7 @@ use Rattle.lab_records_copy_out.specs.Legible.{IsLegibleChange}
 use Rattle.lab_records_laws.proofs.Passing.{decided_is}
 use Rattle.lab_wire.specs.declared.replies.Answer.TheVariants.{Replied}
 use Rattle.lab_wire.specs.Replies.{reply_text}
-use Rattle.lab_desk_events.specs.Calls.{Ends, Loads}
+use Rattle.lab_desk_events.specs.Calls.{EndsCall, Loads}
 use Rattle.lab_desk_events.specs.Requests.{changes_for, is_none, is_idle}
 use Rattle.lab_desk_events.proofs.RequestWords.{Builds}
 use Rattle.lab_desk_events.proofs.Lasting.{shuts_on}
@@ -145,7 +145,7 @@ none_changed (Some lab) tick instruction none = absurd (cc)
 -- a keeper that both shut had a fault in one of them
 shut_on : {A B : Type 0} (old mid new : World) (rests rested : Type 0) (value : B)
     (result : Result A (Fault BadStore)) → Loads old mid rests (Ok value) →
-    Ends mid new rested result → Given old new (Shuts old new)
+    EndsCall mid new rested result → Given old new (Shuts old new)
 shut_on old mid new rests rested value result loads ends honest reached =
     let earlier = ends.passes.honest honest in
     shuts_on old mid new (loads.shuts earlier reached)
@@ -154,7 +154,7 @@ shut_on old mid new rests rested value result loads ends honest reached =
 -- a call after one that changed nothing ends for both as it ends by itself
 pub ends_on : {A B : Type 0} (old mid new : World) (rests rested both : Type 0) (value : B)
     (result : Result A (Fault BadStore)) → Loads old mid rests (Ok value) →
-    Ends mid new rested result → (rests → rested → both) → Ends old new both result
+    EndsCall mid new rested result → (rests → rested → both) → EndsCall old new both result
 ends_on old mid new rests rested both value (Ok one) loads ends on = record {
   err = search rules;
   rows_err = search rules;

@@ -9,7 +9,7 @@ use Rattle.lab_records_laws.specs.Runs.{IsReleasing}
 use Rattle.lab_wire.specs.declared.refusals.RequestRefusal.{RequestRefusal}
 use Rattle.lab_desk_events.specs.Alone.{Founding, Founds, Happening, Request, own_of, alone_answers}
 use Rattle.lab_desk_events.specs.Keeping.{OfAll}
-use Rattle.lab_desk_events.specs.Leaving.{IsFront, IsLiveToLast, LeavesRun}
+use Rattle.lab_desk_events.specs.Leaving.{IsFrontOfRun, IsLiveToLast, LeavesRun}
 use Rattle.lab_desk_events.specs.Runs.{Handled, own_events, own_answers, after_run, answers_of}
 use Rattle.lab_desk_events.specs.Starts.{AreMadeIn, AreStarts, Start}
 use Rattle.lab_desk_events.proofs.Keeping.{follows_itself}
@@ -88,7 +88,7 @@ shut start tick refusal = record {
 -- the founding is the one that was made all the same
 front : (start held : Meaning) (tick : Tick) (refusal : RequestRefusal) (reply : List ℕ) →
     SameMeaning (after_run start (ran tick refusal [] true)) held →
-    IsFront start (ran tick refusal reply false) held
+    IsFrontOfRun start (ran tick refusal reply false) held
 front start held tick refusal reply made = record {
   front = (record { event = Request tick (Err refusal); taken = true; answer = reply }) ∷ [];
   one = record { event = Founding (codes "brick") tick []; taken = false; answer = [] };

@@ -25,12 +25,12 @@ use Rattle.lab_desk_foundings.specs.Faults.{OnBody, OnKept, OnUncommitted, is_ta
 use Rattle.lab_desk_foundings.specs.Foundings.{Births, after_birth, born_of, founding_in}
 use Rattle.lab_desk_events.specs.declared.events.Event.{Event}
 use Rattle.lab_desk_events.specs.declared.events.Event.TheVariants.{Found, Call}
-use Rattle.lab_desk_events.specs.Requests.{Asks, Steps, changes_for, is_idle, is_idle_request, is_none}
+use Rattle.lab_desk_events.specs.Requests.{AskedInBytes, Steps, changes_for, is_idle, is_idle_request, is_none}
 use Rattle.lab_desk_events.specs.Alone.{Happening, Founding, Request, happening, Founds, Obeys, own_call, own_of, alone_after}
 use Rattle.lab_desk_events.specs.Keeping.{AreReleasing, AreWithin, Stays}
 use Rattle.lab_desk_events.specs.Leaving.{AreTakenButLast, IsLeftBy, IsLiveToLast, LeavesByOne, LeavesRun, Settles, as_told}
 use Rattle.lab_desk_events.proofs.LeavingWords.{AreTaken}
-use Rattle.lab_desk_events.specs.Runs.{Handled, IsTold, after_run, own_events}
+use Rattle.lab_desk_events.specs.Runs.{Handled, IsAccountOf, after_run, own_events}
 use Rattle.lab_desk_events.proofs.Running.{after_own_one, after_one, after_then, other_code, told_more}
 
 -- ---- meanings
@@ -140,7 +140,7 @@ idle_step (Some lab) tick instruction idle =
     ∙ nothing_made lab (decided (part (need_of tick instruction) lab) tick instruction.command).changes
     idle
 
-idle_call : (start : Meaning) (tick : Tick) (asks : Asks) →
+idle_call : (start : Meaning) (tick : Tick) (asks : AskedInBytes) →
     IsTrue (is_idle_request start tick asks) → (code : List ℕ) →
     start code ≡ after_one code (start code) (own_call code tick asks)
 idle_call start tick (Err refusal) idle code = refl
@@ -154,7 +154,7 @@ idle_call start tick (Ok asks) idle code = go (bytes_eq asks.lab code) refl
         ((bytes_eq-Decides asks.lab code).0 names) idle))
     go false names = refl
 
-call_steps : (start held : Meaning) (tick : Tick) (asks : Asks) → Steps tick asks start held →
+call_steps : (start held : Meaning) (tick : Tick) (asks : AskedInBytes) → Steps tick asks start held →
     (code : List ℕ) → held code ≡ after_one code (start code) (own_call code tick asks)
 call_steps start held tick (Err refusal) steps code = steps code
 call_steps start held tick (Ok asks) steps code = go (bytes_eq asks.lab code) refl
@@ -168,14 +168,14 @@ call_steps start held tick (Ok asks) steps code = go (bytes_eq asks.lab code) re
     go false names = steps.others code (other_code asks.lab code names)
 
 -- what its call says of crashes
-pub record CallLeaves (old new : World) (tick : Tick) (asks : Asks) (taken : Bool) : Type 0 where
+pub record CallLeaves (old new : World) (tick : Tick) (asks : AskedInBytes) (taken : Bool) : Type 0 where
   pub after : taken ≡ true → Steps tick asks old.meaning new.meaning
   pub crash : CommitsAs (Steps tick asks) old new
   pub quiet : IsTrue (is_idle_request old.meaning tick asks) → Quiet old new
   pub durable : IsFalse (is_idle_request old.meaning tick asks) → taken ≡ true →
       IsDurable new
 
-module _ (old new : World) (tick : Tick) (asks : Asks) (live : old.is_live) where
+module _ (old new : World) (tick : Tick) (asks : AskedInBytes) (live : old.is_live) where
   idle_leaves : (taken : Bool) → CallLeaves old new tick asks taken →
       IsTrue (is_idle_request old.meaning tick asks) →
       LeavesByOne old new (Request tick asks) taken
@@ -213,7 +213,7 @@ module _ (old new : World) (tick : Tick) (asks : Asks) (live : old.is_live) wher
   by_idle taken leaves false is = busy_leaves taken leaves is
 
 -- a request, taken or refused
-pub request_leaves : (old new : World) (tick : Tick) (asks : Asks) (taken : Bool) →
+pub request_leaves : (old new : World) (tick : Tick) (asks : AskedInBytes) (taken : Bool) →
     CallLeaves old new tick asks taken → old.is_live →
     LeavesByOne old new (Request tick asks) taken
 request_leaves old new tick asks taken leaves live =
@@ -322,7 +322,7 @@ lives_refused {S} world old new result fault is taken same lives =
     go (Placing NoMemory) taken same lives live = absurd (false≢true taken)
 
 -- nor did a request that was taken
-pub request_lives : {S : Type 0} (world : S → World) (old new : S) (asks : Asks) →
+pub request_lives : {S : Type 0} (world : S → World) (old new : S) (asks : AskedInBytes) →
     (IsOk asks → Lives (world old) (world new)) →
     ((refusal : RequestRefusal) → asks ≡ Err refusal → new ≡ old) →
     (world old).is_live → (world new).is_live
@@ -394,7 +394,7 @@ module _ {S : Type 0} (keeper : Ghosts S) where
   -- one event more, of which this is told
   pub leaves_on : (old mid new : S) (events next : List Happening) (taken nexts : List Bool)
       (event : Happening) (told : Bool) (so : LeavesSoFar old mid events taken) →
-      IsTold next nexts (so.leaves.handled ++ as_told event told ∷ []) →
+      IsAccountOf next nexts (so.leaves.handled ++ as_told event told ∷ []) →
       ComesNext old mid new event told → LeavesSoFar old new next nexts
   leaves_on old mid new events next taken nexts event told so are comes =
       let first = so.leaves.handled in
@@ -535,7 +535,7 @@ module _ {S : Type 0} (keeper : Ghosts S) where
 
   pub awake_on : (old mid new : S) (events next : List Happening) (taken nexts : List Bool)
       (event : Happening) (told : Bool) (awake : LeavesAwake old mid events taken) →
-      IsTold next nexts (awake.so.leaves.handled ++ as_told event told ∷ []) →
+      IsAccountOf next nexts (awake.so.leaves.handled ++ as_told event told ∷ []) →
       ComesNext old mid new event told →
       ((keeper.world old).is_live → (keeper.world mid).is_live) → LeavesAwake old new next nexts
   unfolding leaves_on

@@ -17,7 +17,7 @@ use Rattle.lab_forms_streams.specs.declared.sending.WriteFault.{WriteFault}
 use Rattle.lab_records_kept.specs.declared.labs.Lab.{Lab}
 use Rattle.lab_records_kept.specs.Keeping.{Keeps}
 use Rattle.lab_records_kept.specs.Limits.{IsWithin}
-use Rattle.lab_records_keeper.specs.Worlds.{World, Meaning, SameMeaning, Tells, Leaves}
+use Rattle.lab_records_keeper.specs.Worlds.{World, Meaning, SameMeaning, HoldsMeaning, Leaves}
 use Rattle.lab_records_laws.specs.Runs.{IsReleasing}
 use Rattle.lab_records_laws.specs.Stepping.{WhereThere}
 use Rattle.lab_records_machine.specs.Machine.{step}
@@ -27,14 +27,14 @@ use Rattle.lab_wire.specs.Asked.{asked}
 use Rattle.lab_wire.specs.Replies.{reply_text, memory_text}
 use Rattle.lab_desk_events.specs.declared.events.Event.{Event}
 use Rattle.lab_desk_events.specs.declared.events.Event.TheVariants.{Found, Call}
-use Rattle.lab_desk_events.specs.Requests.{Asks, TakesRequest, RefusesRequest}
+use Rattle.lab_desk_events.specs.Requests.{AskedInBytes, TakesRequest, RefusesRequest}
 use Rattle.lab_desk_foundings.specs.Foundings.{Bears, founding_in, born_of, after_birth, line_of, TakesFounding, RefusesFounding, memory_line, storage_line}
 use Rattle.lab_desk_events.specs.Keeping.{AreWithin, AreReleasing, Follows}
 use Rattle.lab_desk_foundings.proofs.Bearing.{born_seen}
 use Rattle.lab_desk_events.proofs.Keeping.{follows_itself, step_follows, birth_follows}
 use Rattle.lab_desk_events.proofs.Staying.{step_there, step_releasing, birth_releasing}
 use Rattle.lab_desk_events.specs.Alone.{Own, Happening, Founding, Request, happening, Founds, Obeys, own_call, after_own, answer_own, alone_after, alone_answers}
-use Rattle.lab_desk_events.specs.Runs.{Handled, IsRun, IsTold, IsAnswer, IsAnswerBy, IsAnswerToNobody, AreAlone, KeepsAlong, own_in, own_events, own_answers, after_run, answers_of, Sends, Runs, RunsCut}
+use Rattle.lab_desk_events.specs.Runs.{Handled, IsRun, IsAccountOf, IsAnswer, IsAnswerBy, IsAnswerToNobody, AreAlone, KeepsAlong, own_in, own_events, own_answers, after_run, answers_of, SendsAnswer, Runs, RunsCut}
 
 -- ---- runs join
 
@@ -194,11 +194,11 @@ after_own_one code lab (Some own) = refl
 -- one event, from what it makes of each laboratory
 record IsOne (old new : World) (one : Handled) : Type 0 where
   each : IsAnswer old.may_refuse one
-  told : (start : Meaning) → Tells old start → (code : List ℕ) →
+  told : (start : Meaning) → HoldsMeaning old start → (code : List ℕ) →
       Told code (start code) (own_in code one) one.answer
-  keeps : (start : Meaning) → Tells old start → (code : List ℕ) →
+  keeps : (start : Meaning) → HoldsMeaning old start → (code : List ℕ) →
       Follows Keeps (start code) (after_one code (start code) (own_in code one))
-  after : (start : Meaning) → Tells old start → new.is_live → (code : List ℕ) →
+  after : (start : Meaning) → HoldsMeaning old start → new.is_live → (code : List ℕ) →
       new.meaning code ≡ after_one code (start code) (own_in code one)
 
 one_run : (old new : World) (one : Handled) → IsOne old new one → IsRun old new (one ∷ [])
@@ -221,14 +221,14 @@ other_code named code differs same =
     false≢true (sym differs ∙ (bytes_eq-Decides named code).1 (sym same))
 
 -- a founding that was refused, and a call that was refused, leave every laboratory
-left_alone : (old new : World) (start : Meaning) → (new.is_live → old.is_live) → Tells old start →
+left_alone : (old new : World) (start : Meaning) → (new.is_live → old.is_live) → HoldsMeaning old start →
     Leaves old new → new.is_live → (code : List ℕ) → new.meaning code ≡ start code
 left_alone old new start back tells left live code = left live code ∙ tells (back live) code
 
 -- ---- a founding
 
 founding_told : (old new : World) (start : Meaning) (lab code : List ℕ) (tick : Tick)
-    (body answer : List ℕ) (b : Bool) → bytes_eq lab code ≡ b → Tells old start →
+    (body answer : List ℕ) (b : Bool) → bytes_eq lab code ≡ b → HoldsMeaning old start →
     TakesFounding old new lab tick (founding_in body) answer →
     Told code (start code) (cond b (Some (Founds tick body)) None) answer
 founding_told old new start lab code tick body answer true names tells takes =
@@ -241,7 +241,7 @@ founding_told old new start lab code tick body answer true names tells takes =
 founding_told old new start lab code tick body answer false names tells takes = tt
 
 founding_after : (old new : World) (start : Meaning) (lab code : List ℕ) (tick : Tick)
-    (body answer : List ℕ) (b : Bool) → bytes_eq lab code ≡ b → old.is_live → Tells old start →
+    (body answer : List ℕ) (b : Bool) → bytes_eq lab code ≡ b → old.is_live → HoldsMeaning old start →
     TakesFounding old new lab tick (founding_in body) answer →
     new.meaning code ≡ after_one code (start code) (cond b (Some (Founds tick body)) None)
 founding_after old new start lab code tick body answer true names live tells takes =
@@ -296,7 +296,7 @@ one_founding old new event lab tick body read taken answer line is reads lines b
 -- ---- a call
 
 call_told : (old new : World) (start : Meaning) (asked_here : Asked) (code : List ℕ) (tick : Tick)
-    (answer : List ℕ) (b : Bool) → bytes_eq asked_here.lab code ≡ b → Tells old start →
+    (answer : List ℕ) (b : Bool) → bytes_eq asked_here.lab code ≡ b → HoldsMeaning old start →
     TakesRequest old new tick (Ok asked_here) answer →
     Told code (start code) (cond b (Some (Obeys tick asked_here.instruction)) None) answer
 call_told old new start asks code tick answer true names tells takes =
@@ -308,8 +308,8 @@ call_told old new start asks code tick answer true names tells takes =
     (tells (takes.lives refl).0 asks.lab))
 call_told old new start asks code tick answer false names tells takes = tt
 
-asks_told : (old new : World) (start : Meaning) (asks : Asks) (code : List ℕ) (tick : Tick)
-    (answer : List ℕ) → Tells old start → TakesRequest old new tick asks answer →
+asks_told : (old new : World) (start : Meaning) (asks : AskedInBytes) (code : List ℕ) (tick : Tick)
+    (answer : List ℕ) → HoldsMeaning old start → TakesRequest old new tick asks answer →
     Told code (start code) (own_call code tick asks) answer
 asks_told old new start (Err refusal) code tick answer tells takes = tt
 asks_told old new start (Ok asks) code tick answer tells takes =
@@ -317,7 +317,7 @@ asks_told old new start (Ok asks) code tick answer tells takes =
 
 call_after : (old new : World) (start : Meaning) (asked_here : Asked) (code : List ℕ) (tick : Tick)
     (answer : List ℕ) (b : Bool) → bytes_eq asked_here.lab code ≡ b → old.is_live →
-    Tells old start → TakesRequest old new tick (Ok asked_here) answer →
+    HoldsMeaning old start → TakesRequest old new tick (Ok asked_here) answer →
     new.meaning code ≡ after_one code (start code)
     (cond b (Some (Obeys tick asked_here.instruction)) None)
 call_after old new start asks code tick answer true names live tells takes =
@@ -329,8 +329,8 @@ call_after old new start asks code tick answer true names live tells takes =
 call_after old new start asks code tick answer false names live tells takes =
     takes.after.others code (other_code asks.lab code names) ∙ tells live code
 
-asks_after : (old new : World) (start : Meaning) (asks : Asks) (code : List ℕ) (tick : Tick)
-    (answer : List ℕ) → old.is_live → Tells old start → TakesRequest old new tick asks answer →
+asks_after : (old new : World) (start : Meaning) (asks : AskedInBytes) (code : List ℕ) (tick : Tick)
+    (answer : List ℕ) → old.is_live → HoldsMeaning old start → TakesRequest old new tick asks answer →
     new.meaning code ≡ after_one code (start code) (own_call code tick asks)
 asks_after old new start (Err refusal) code tick answer live tells takes =
     takes.after code ∙ tells live code
@@ -338,7 +338,7 @@ asks_after old new start (Ok asks) code tick answer live tells takes =
     call_after old new start asks code tick answer (bytes_eq asks.lab code) refl live tells takes
 
 call_keeps : (old new : World) (start : Meaning) (asked_here : Asked) (code : List ℕ) (tick : Tick)
-    (answer : List ℕ) (b : Bool) → AreWithin old → Tells old start →
+    (answer : List ℕ) (b : Bool) → AreWithin old → HoldsMeaning old start →
     TakesRequest old new tick (Ok asked_here) answer →
     Follows Keeps (start code)
     (after_one code (start code) (cond b (Some (Obeys tick asked_here.instruction)) None))
@@ -349,8 +349,8 @@ call_keeps old new start asks code tick answer true within tells takes =
 call_keeps old new start asks code tick answer false within tells takes =
     follows_itself (start code)
 
-asks_keeps : (old new : World) (start : Meaning) (asks : Asks) (code : List ℕ) (tick : Tick)
-    (answer : List ℕ) → AreWithin old → Tells old start → TakesRequest old new tick asks answer →
+asks_keeps : (old new : World) (start : Meaning) (asks : AskedInBytes) (code : List ℕ) (tick : Tick)
+    (answer : List ℕ) → AreWithin old → HoldsMeaning old start → TakesRequest old new tick asks answer →
     Follows Keeps (start code) (after_one code (start code) (own_call code tick asks))
 asks_keeps old new start (Err refusal) code tick answer within tells takes =
     follows_itself (start code)
@@ -358,12 +358,12 @@ asks_keeps old new start (Ok asks) code tick answer within tells takes =
     call_keeps old new start asks code tick answer (bytes_eq asks.lab code) within tells takes
 
 -- bytes that ask nothing are answered from themselves and the tick alone
-nobodys : (old new : World) (tick : Tick) (asks : Asks) (answer : List ℕ) →
+nobodys : (old new : World) (tick : Tick) (asks : AskedInBytes) (answer : List ℕ) →
     TakesRequest old new tick asks answer → IsAnswerToNobody tick asks answer
 nobodys old new tick (Err refusal) answer takes = takes.replied
 nobodys old new tick (Ok asks) answer takes = tt
 
-call_is : (old new : World) (tick : Tick) (asks : Asks) (taken : Bool) (answer : List ℕ) →
+call_is : (old new : World) (tick : Tick) (asks : AskedInBytes) (taken : Bool) (answer : List ℕ) →
     (new.is_live → old.is_live) → AreWithin old →
     (taken ≡ true → TakesRequest old new tick asks answer) →
     (taken ≡ false → RefusesRequest old new tick asks answer) →
@@ -385,7 +385,7 @@ call_is old new tick asks false answer back within takes refuses = record {
 }
 
 -- a request, taken or refused, is a run
-pub one_request : (old new : World) (tick : Tick) (asks : Asks) (taken : Bool) (answer : List ℕ) →
+pub one_request : (old new : World) (tick : Tick) (asks : AskedInBytes) (taken : Bool) (answer : List ℕ) →
     (new.is_live → old.is_live) → AreWithin old →
     (taken ≡ true → TakesRequest old new tick asks answer) →
     (taken ≡ false → RefusesRequest old new tick asks answer) →
@@ -436,7 +436,7 @@ run_releasing old new handled back is holds = λ live code.
 pub sent_as : (answer : List ℕ) (sent : Result (Unit {0}) WriteFault)
     (before after : Option (List ℕ)) → OnOk sent (Appends before after answer) →
     IfErr sent (λ fault. Appends before after (take fault.sent answer)) →
-    IfErr sent (λ fault. fault.sent < length answer) → Sends answer sent before after
+    IfErr sent (λ fault. fault.sent < length answer) → SendsAnswer answer sent before after
 sent_as answer (Ok done) before after whole cut short = whole
 sent_as answer (Err fault) before after whole cut short = (cut, short)
 
@@ -453,8 +453,8 @@ runs_none world events contents = record {
 -- one event more is told
 pub told_more : (events : List Happening) (at : ℕ) (taken : List Bool) (handled : List Handled)
     (one : Handled) → one.event ≡ get_or events at one.event → at < length events →
-    IsTold (take at events) taken handled →
-    IsTold (take (at + 1) events) (taken ++ one.taken ∷ []) (handled ++ one ∷ [])
+    IsAccountOf (take at events) taken handled →
+    IsAccountOf (take (at + 1) events) (taken ++ one.taken ∷ []) (handled ++ one ∷ [])
 told_more events at taken handled one is within told = record {
   events_are =
       map-append (λ (h : Handled). h.event) handled (one ∷ [])

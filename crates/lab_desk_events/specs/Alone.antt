@@ -10,7 +10,7 @@ use Rattle.lab_wire.specs.Asked.{asked}
 use Rattle.lab_wire.specs.Replies.{reply_text}
 use Rattle.lab_desk_events.specs.declared.events.Event.{Event}
 use Rattle.lab_desk_events.specs.declared.events.Event.TheVariants.{Found, Call}
-use Rattle.lab_desk_events.specs.Requests.{Asks}
+use Rattle.lab_desk_events.specs.Requests.{AskedInBytes}
 use Rattle.lab_desk_foundings.specs.Foundings.{founding_in, born_of, after_birth, line_of}
 
 -- an event of one laboratory: it is founded from a body, or it is given an instruction
@@ -19,7 +19,7 @@ pub data Own : Type 0 where
   Obeys : Tick → Instruction → Own
 
 -- a call as the laboratory's own, where its bytes name the laboratory
-abbrev pub own_call : List ℕ → Tick → Asks → Option Own
+abbrev pub own_call : List ℕ → Tick → AskedInBytes → Option Own
 own_call code tick (Err refusal) = None
 own_call code tick (Ok asked) = if bytes_eq asked.lab code then Some
     (Obeys tick asked.instruction) else None
@@ -28,7 +28,7 @@ own_call code tick (Ok asked) = if bytes_eq asked.lab code then Some
 -- only what they ask plays a part, so that a request counts of which no more is known
 pub data Happening : Type 0 where
   Founding : List ℕ → Tick → List ℕ → Happening
-  Request : Tick → Asks → Happening
+  Request : Tick → AskedInBytes → Happening
 
 -- an event as what happens
 abbrev pub happening : Event → Happening

@@ -9,7 +9,7 @@ use Rattle.lab_records_keeper.specs.Worlds.{World, Passes, Given, Changes, Commi
 
 -- a call that answers something or fails: after an error every laboratory means what it meant, in
 -- rows that are as they were, and the store is blamed only where it may refuse
-pub record Ends {A : Type 0} (old new : World) (rests : Type 0)
+pub record EndsCall {A : Type 0} (old new : World) (rests : Type 0)
     (result : Result A (Fault BadStore)) : Type 0 where
   pub err : Given old new (OnErr result (Leaves old new))
   pub rows_err : Given old new (OnErr result (new.is_live → rests))
@@ -47,6 +47,6 @@ pub record Applies {A : Type 0} (code : List ℕ) (changes : List Change) (old n
     (result : Result A (Fault BadStore)) : Type 0 where
   pub makes : ChangesFit (old.meaning code) changes →
       Given old new (Makes code changes old new moves result)
-  pub ends : Ends old new rests result
+  pub ends : EndsCall old new rests result
   pub quiet : changes ≡ [] → Given old new (Quiet old new)
   pub reached_err : Given old new (OnErr result new.is_reached)

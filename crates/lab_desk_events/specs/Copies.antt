@@ -16,7 +16,7 @@ use Rattle.lab_records_machine.specs.declared.replies.Reply.{Reply}
 use Rattle.lab_records_machine.specs.Machine.{step}
 use Rattle.lab_records_laws.specs.Inspections.{IfCopied, counts_within}
 use Rattle.lab_records_laws.specs.Stepping.{WhereThere}
-use Rattle.lab_desk_events.specs.Requests.{Asks}
+use Rattle.lab_desk_events.specs.Requests.{AskedInBytes}
 
 -- the range of a copy and the moment at which it is asked for are such as their types admit
 abbrev pub IsAskedLegibly : ℕ → Command → Type 0
@@ -32,7 +32,7 @@ IsSoundReply (In (Reading (TakeCopy from to))) lab reply =
 IsSoundReply _ lab reply = Unit {0}
 
 -- so it is where bytes ask a laboratory for one
-abbrev pub IsSoundAnswer : Meaning → Tick → Asks → Type 0
+abbrev pub IsSoundAnswer : Meaning → Tick → AskedInBytes → Type 0
 IsSoundAnswer meaning tick (Err refusal) = Unit {0}
 IsSoundAnswer meaning tick (Ok asked) = WhereThere (λ lab.
     IsSoundReply asked.instruction.command lab

@@ -7,7 +7,7 @@ use Rattle.lab_records_keeper.specs.Worlds.{World, Meaning, IsDurable, Quiet, Sa
 use Rattle.lab_records_laws.specs.Runs.{IsReleasing}
 use Rattle.lab_desk_events.specs.Keeping.{AreReleasing, LeavesOnly}
 use Rattle.lab_desk_events.specs.Alone.{Happening}
-use Rattle.lab_desk_events.specs.Runs.{Handled, IsTold, after_run}
+use Rattle.lab_desk_events.specs.Runs.{Handled, IsAccountOf, after_run}
 
 -- an event as one that was taken or refused; what it answers plays no part here
 abbrev pub as_told : Happening → Bool → Handled
@@ -15,7 +15,7 @@ as_told event taken = record { event = event; taken = taken; answer = [] }
 
 -- the laboratories of a front of the run, whose last event was refused and made all the same;
 -- nothing that was taken since has changed any
-pub record IsFront (start : Meaning) (handled : List Handled) (held : Meaning) : Type 0 where
+pub record IsFrontOfRun (start : Meaning) (handled : List Handled) (held : Meaning) : Type 0 where
   pub front : List Handled
   pub one : Handled
   pub rest : List Handled
@@ -29,7 +29,7 @@ pub record IsFront (start : Meaning) (handled : List Handled) (held : Meaning) :
 abbrev pub IsLeftBy : Meaning → (Meaning → Type 0) → List Handled → Meaning → Type 0
 IsLeftBy start before handled held =
     SameMeaning (after_run start handled) held
-    ⊎ (IsFront start handled held
+    ⊎ (IsFrontOfRun start handled held
     ⊎ (before held × SameMeaning start (after_run start handled)))
 
 -- the same of one event
@@ -60,7 +60,7 @@ IsLiveToLast old new taken = new.is_live ⊎ (old.is_live × AreTakenButLast tak
 pub record LeavesRun (was_live : Type 0) (old new : World) (events : List Happening)
     (taken : List Bool) : Type 0 where
   pub handled : List Handled
-  pub told : IsTold events taken handled
+  pub told : IsAccountOf events taken handled
   pub left : was_live → (held : Meaning) → new.may_leave held →
       IsLeftBy old.meaning old.may_leave handled held
   pub safe : was_live → old.is_safe → new.is_safe

@@ -20,11 +20,11 @@ use Rattle.lab_wire.specs.declared.replies.Answer.TheVariants.{Replied, Refused,
 use Rattle.lab_wire.specs.Replies.{reply_text, memory_text}
 
 -- what bytes ask, or why they ask nothing
-abbrev pub Asks : Type 0
-Asks = Result Asked RequestRefusal
+abbrev pub AskedInBytes : Type 0
+AskedInBytes = Result Asked RequestRefusal
 
 -- the answer to what bytes ask, over laboratories that mean this
-abbrev pub answer_to : Meaning → Tick → Asks → Answer
+abbrev pub answer_to : Meaning → Tick → AskedInBytes → Answer
 answer_to meaning tick (Err refusal) = Refused refusal
 answer_to meaning tick (Ok asked) = Replied (step (meaning asked.lab) tick asked.instruction).reply
 
@@ -43,12 +43,12 @@ abbrev pub is_idle : Option Lab → Tick → Instruction → Bool
 is_idle lab tick instruction = is_none (changes_for lab tick instruction)
 
 -- whether what bytes ask writes nothing
-abbrev pub is_idle_request : Meaning → Tick → Asks → Bool
+abbrev pub is_idle_request : Meaning → Tick → AskedInBytes → Bool
 is_idle_request meaning tick (Err refusal) = true
 is_idle_request meaning tick (Ok asked) = is_idle (meaning asked.lab) tick asked.instruction
 
 -- the laboratory that the bytes name took its step, and every other means what it meant
-abbrev pub Steps : Tick → Asks → Meaning → Meaning → Type 0
+abbrev pub Steps : Tick → AskedInBytes → Meaning → Meaning → Type 0
 Steps tick (Err refusal) old new = SameMeaning old new
 Steps tick (Ok asked) old new =
     SetsOne asked.lab (step (old asked.lab) tick asked.instruction).after old new
@@ -77,7 +77,7 @@ pub record DoesStep {A : Type 0} (old new : World) (tick : Tick) (asked : Asked)
 
 -- a request that was taken: its reply is that of the machine of the laboratory that it names, which
 -- took its step; and the keeper was there, where the bytes ask something
-pub record TakesRequest (old new : World) (tick : Tick) (asks : Asks)
+pub record TakesRequest (old new : World) (tick : Tick) (asks : AskedInBytes)
     (reply : List ℕ) : Type 0 where
   pub replied : reply ≡ reply_text tick (answer_to old.meaning tick asks)
   pub after : Steps tick asks old.meaning new.meaning
@@ -95,7 +95,7 @@ TellsFault tick reply (StoreRefused _) = (reply ≡ memory_text) ⊎ (reply ≡ 
 
 -- a request that was refused: for memory, or by a store that may refuse, which was asked something;
 -- every laboratory means what it meant
-pub record RefusesRequest (old new : World) (tick : Tick) (asks : Asks)
+pub record RefusesRequest (old new : World) (tick : Tick) (asks : AskedInBytes)
     (reply : List ℕ) : Type 0 where
   pub replied : IsRefusedReply (old.may_refuse × IsOk asks) tick reply
   pub same : Leaves old new

@@ -6,10 +6,10 @@ use Rattle.std.specs.List.{concat}
 use Rattle.lab_forms_texts.specs.declared.tick.Tick.{Tick}
 use Rattle.lab_forms_streams.specs.declared.sending.WriteFault.{WriteFault}
 use Rattle.lab_records_kept.specs.Keeping.{Keeps}
-use Rattle.lab_records_keeper.specs.Worlds.{World, Meaning, Tells}
+use Rattle.lab_records_keeper.specs.Worlds.{World, Meaning, HoldsMeaning}
 use Rattle.lab_wire.specs.declared.replies.Answer.TheVariants.{Refused}
 use Rattle.lab_wire.specs.Replies.{reply_text}
-use Rattle.lab_desk_events.specs.Requests.{Asks, IsRefusedReply}
+use Rattle.lab_desk_events.specs.Requests.{AskedInBytes, IsRefusedReply}
 use Rattle.lab_desk_foundings.specs.Foundings.{founding_in, Bears, IsRefusedLine}
 use Rattle.lab_desk_events.specs.Keeping.{EachFollows}
 use Rattle.lab_desk_events.specs.Alone.{Own, Happening, Founding, Request, own_of, alone_after, alone_answers}
@@ -24,7 +24,7 @@ pub record Handled : Type 0 where
 -- ---- what is answered, apart from what a laboratory's machine says of it
 
 -- bytes that ask nothing are answered from themselves and the tick alone
-abbrev pub IsAnswerToNobody : Tick → Asks → List ℕ → Type 0
+abbrev pub IsAnswerToNobody : Tick → AskedInBytes → List ℕ → Type 0
 IsAnswerToNobody tick asks answer = IfErr asks
     (λ refusal. answer ≡ reply_text tick (Refused refusal))
 
@@ -84,14 +84,14 @@ KeepsAlong start (one ∷ others) =
 -- its run alone, in which it keeps what was at each event
 pub record IsRun (old new : World) (handled : List Handled) : Type 0 where
   pub each : All (IsAnswer old.may_refuse) handled
-  pub alone : (start : Meaning) → Tells old start → AreAlone start handled
-  pub keeps : (start : Meaning) → Tells old start → KeepsAlong start handled
-  pub after : (start : Meaning) → Tells old start → Tells new (after_run start handled)
+  pub alone : (start : Meaning) → HoldsMeaning old start → AreAlone start handled
+  pub keeps : (start : Meaning) → HoldsMeaning old start → KeepsAlong start handled
+  pub after : (start : Meaning) → HoldsMeaning old start → HoldsMeaning new (after_run start handled)
 
 -- ---- what is told and written
 
 -- these are the events, in order, and whether each was taken
-pub record IsTold (events : List Happening) (taken : List Bool) (handled : List Handled) : Type 0 where
+pub record IsAccountOf (events : List Happening) (taken : List Bool) (handled : List Handled) : Type 0 where
   pub events_are : map (λ (one : Handled). one.event) handled ≡ events
   pub taken_are : map (λ (one : Handled). one.taken) handled ≡ taken
 
@@ -100,17 +100,17 @@ abbrev pub answers_of : List Handled → List ℕ
 answers_of handled = concat (map (λ (one : Handled). one.answer) handled)
 
 -- an answer went out whole, or its first bytes did and then the writer failed
-abbrev pub Sends : List ℕ → Result (Unit {0}) WriteFault → Option (List ℕ) → Option (List ℕ) →
+abbrev pub SendsAnswer : List ℕ → Result (Unit {0}) WriteFault → Option (List ℕ) → Option (List ℕ) →
     Type 0
-Sends answer (Ok _) before after = Appends before after answer
-Sends answer (Err fault) before after = Appends before after (take fault.sent answer) ×
+SendsAnswer answer (Ok _) before after = Appends before after answer
+SendsAnswer answer (Err fault) before after = Appends before after (take fault.sent answer) ×
     (fault.sent < length answer)
 
 -- all events were handled, and their answers were written, and nothing else
 pub record Runs (old new : World) (events : List Happening) (taken : List Bool)
     (before after : Option (List ℕ)) : Type 0 where
   pub handled : List Handled
-  pub told : IsTold events taken handled
+  pub told : IsAccountOf events taken handled
   pub run : IsRun old new handled
   pub written : Appends before after (answers_of handled)
 
@@ -120,7 +120,7 @@ pub record RunsCut (old new : World) (events : List Happening) (taken : List Boo
     (before after : Option (List ℕ)) : Type 0 where
   pub handled : List Handled
   pub last : Handled
-  pub told : IsTold (take (length taken) events) taken (handled ++ last ∷ [])
+  pub told : IsAccountOf (take (length taken) events) taken (handled ++ last ∷ [])
   pub run : IsRun old new (handled ++ last ∷ [])
   pub written : Appends before after (answers_of handled ++ take sent last.answer)
   pub short : sent < length last.answer

@@ -6,7 +6,7 @@ use Rattle.lab_records_kept.specs.declared.labs.Lab.{Lab}
 use Rattle.lab_records_keeper.specs.Worlds.{Meaning, SameMeaning}
 use Rattle.lab_desk_events.specs.Alone.{Happening, alone_after, alone_answers}
 use Rattle.lab_desk_events.specs.Leaving.{IsLeftBy, as_told}
-use Rattle.lab_desk_events.specs.Runs.{AreAlone, Handled, IsTold, KeepsAlong, after_run, own_answers, own_events}
+use Rattle.lab_desk_events.specs.Runs.{AreAlone, Handled, IsAccountOf, KeepsAlong, after_run, own_answers, own_events}
 
 pub record Start : Type 0 where
   -- the laboratories that it found
@@ -22,7 +22,7 @@ pub record Start : Type 0 where
 -- from these laboratories, its events were answered by each laboratory's machine alone, and each
 -- laboratory keeps what was at each event: what `Desk::run` says (`alone`, `cut`)
 pub record IsAnswered (found : Meaning) (one : Start) : Type 0 where
-  pub told : IsTold one.events one.taken one.handled
+  pub told : IsAccountOf one.events one.taken one.handled
   pub alone : AreAlone found one.handled
   pub keeps : KeepsAlong found one.handled
 
@@ -30,7 +30,7 @@ pub record IsAnswered (found : Meaning) (one : Start) : Type 0 where
 -- found alone: what `Desk::run` says (`leaves`, `leaves_cut`)
 pub record IsStopped (one : Start) : Type 0 where
   pub handled : List Handled
-  pub told : IsTold one.events one.taken handled
+  pub told : IsAccountOf one.events one.taken handled
   pub left : IsLeftBy one.found (SameMeaning one.found) handled one.left
 
 -- each start finds what the stop before it left, and the first one what was there at first
@@ -59,7 +59,7 @@ IsMade found handled made = (made ≡ handled)
 -- what was answered plays no part here
 pub record IsMadeIn (one : Start) (made : List Handled) : Type 0 where
   pub handled : List Handled
-  pub told : IsTold one.events one.taken handled
+  pub told : IsAccountOf one.events one.taken handled
   pub makes : IsMade one.found handled made
 
 -- those of all starts, in order

@@ -7,7 +7,7 @@ ghost use Rattle.lab_records_kept.specs.Parts.{part_of};
 ghost use Rattle.lab_records_laws.specs.Asking.{IsCommandFormed};
 ghost use Rattle.lab_records_machine.specs.Needs.{need_of};
 ghost use Rattle.lab_wire.specs.Replies.{reply_text};
-ghost use Rattle.lab_desk_events.specs.Calls.{Ends, Loads};
+ghost use Rattle.lab_desk_events.specs.Calls.{EndsCall, Loads};
 ghost use Rattle.lab_desk_events.specs.Copies.{IsAskedLegibly};
 ghost use Rattle.lab_desk_events.specs.Keeping.{AreWithin};
 ghost use Rattle.lab_desk_events.specs.Requests.{answer_to, changes_for, is_idle, DoesStep};
@@ -68,7 +68,7 @@ pub fn answer_asked<S: Keeper>(
     ensures reply { Given (S.world keeper.old) (S.world keeper.new) (IfOk result (λ reply.
         reply.items ≡ reply_text tick.now
         (answer_to (S.world keeper.old).meaning tick.now (Ok asked)))) }
-    ensures ends { Ends (S.world keeper.old) (S.world keeper.new)
+    ensures ends { EndsCall (S.world keeper.old) (S.world keeper.new)
         (S.rests keeper.old keeper.new) result }
     ensures quiet { IsTrue (is_idle ((S.world keeper.old).meaning asked.lab) tick.now
         asked.instruction) →

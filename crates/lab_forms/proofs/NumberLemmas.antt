@@ -8,11 +8,11 @@ use Rattle.std.proofs.lemmas.Bool.Decides.{nat_tests}
 use Rattle.std.proofs.Math.Bool.{and-true}
 use Rattle.std.proofs.lemmas.List.{take_all, drop_all}
 use Rattle.std.proofs.lemmas.List.Sums.{fold_more}
-use Rattle.lab_forms.specs.Numbers.{is_point, has_point, whole_part, fraction_part, is_digits, number_of, is_unsigned_number, millionths_of}
+use Rattle.lab_forms.specs.Numbers.{is_point, has_point, whole_part, fraction_part, is_digits, decimal_value, is_unsigned_number, millionths_of}
 
 -- one digit more
-pub number_of-more : (text : List ℕ) (i : ℕ) → i < length text → number_of (take (i + 1) text) ≡ number_of (take i text) * 10 + (get_or text i 0 - 48)
-unfolding number_of
+pub number_of-more : (text : List ℕ) (i : ℕ) → i < length text → decimal_value (take (i + 1) text) ≡ decimal_value (take i text) * 10 + (get_or text i 0 - 48)
+unfolding decimal_value
 number_of-more text i h = fold_more (λ number digit. number * 10 + (digit - 48)) 0 text i 0 h
 
 -- a number below 10 ^ i gets a digit that keeps it below 10 ^ (i + 1), which is 10 ^ 15 at most
@@ -81,14 +81,14 @@ is_whole text e =
     }
 
 -- the test and the amount of a text without a point
-pub unsigned-whole : (decimals : ℕ) (text : List ℕ) → None ≡ position is_point text → (is_unsigned_number decimals text ≡ is_digits 15 text) × (millionths_of text ≡ number_of text * 1000000)
-unfolding is_unsigned_number millionths_of number_of
+pub unsigned-whole : (decimals : ℕ) (text : List ℕ) → None ≡ position is_point text → (is_unsigned_number decimals text ≡ is_digits 15 text) × (millionths_of text ≡ decimal_value text * 1000000)
+unfolding is_unsigned_number millionths_of decimal_value
 unsigned-whole decimals text e =
     let parts = is_whole text e in
     (rw (parts.whole, parts.point) (and-true (is_digits 15 text)), rw (parts.whole, parts.fraction) (omega arith))
 
 -- and of one with a point
-pub unsigned-split : (decimals i : ℕ) (text : List ℕ) → Some i ≡ position is_point text → (is_unsigned_number decimals text ≡ (is_digits 15 (take i text) && is_digits decimals (drop (i + 1) text))) × (millionths_of text ≡ number_of (take i text) * 1000000 + number_of (drop (i + 1) text) * 10 ^ (6 - length (drop (i + 1) text)))
+pub unsigned-split : (decimals i : ℕ) (text : List ℕ) → Some i ≡ position is_point text → (is_unsigned_number decimals text ≡ (is_digits 15 (take i text) && is_digits decimals (drop (i + 1) text))) × (millionths_of text ≡ decimal_value (take i text) * 1000000 + decimal_value (drop (i + 1) text) * 10 ^ (6 - length (drop (i + 1) text)))
 unfolding is_unsigned_number millionths_of
 unsigned-split decimals i text e =
     let parts = splits text i e in

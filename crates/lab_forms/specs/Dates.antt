@@ -3,7 +3,7 @@
 use Rattle.std.specs.Prelude.{ℕ, Bool, ◌&&◌, ◌==◌, nat_le, List, length, slice_index, slice_range}
 use Rattle.lab_forms_texts.specs.Calendar.{days_in_month}
 use Rattle.lab_forms_texts.specs.Names.{hyphen}
-use Rattle.lab_forms.specs.Numbers.{is_digits, number_of}
+use Rattle.lab_forms.specs.Numbers.{is_digits, decimal_value}
 
 -- the year, the month and the day of the month as the text writes them
 abbrev pub year_part : List ℕ → List ℕ
@@ -31,5 +31,5 @@ unfoldable pub is_date : List ℕ → Bool
 is_date text =
     has_hyphens text && is_digits 4 (year_part text) && is_digits 2 (month_part text)
     && is_digits 2 (day_part text)
-    && is_calendar_day (number_of (year_part text)) (number_of (month_part text))
-    (number_of (day_part text))
+    && is_calendar_day (decimal_value (year_part text)) (decimal_value (month_part text))
+    (decimal_value (day_part text))

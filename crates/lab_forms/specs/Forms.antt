@@ -87,6 +87,6 @@ value_refusal fields key text unit =
 
 -- the fault that a call tells: the first thing that is wrong, and out of memory only where nothing
 -- is
-abbrev pub IsTold : Option FormRefusal → Fault FormRefusal → Type 0
-IsTold first (Refused refusal) = first ≡ Some refusal
-IsTold first Memory = first ≡ None
+abbrev pub IsFirstFault : Option FormRefusal → Fault FormRefusal → Type 0
+IsFirstFault first (Refused refusal) = first ≡ Some refusal
+IsFirstFault first Memory = first ≡ None

@@ -29,8 +29,8 @@ is_digits most text =
     nat_le 1 (length text) && nat_le (length text) most && list_all is_ascii_digit text
 
 -- the number that decimal digits write
-unfoldable pub number_of : List ℕ → ℕ
-number_of digits = fold (λ number digit. number * 10 + (digit - zero_digit)) 0 digits
+unfoldable pub decimal_value : List ℕ → ℕ
+decimal_value digits = fold (λ number digit. number * 10 + (digit - zero_digit)) 0 digits
 
 -- the point between the digits of the whole and those of its fraction
 abbrev pub is_point : ℕ → Bool
@@ -54,8 +54,8 @@ is_unsigned_number decimals text =
 -- how many millionths it is
 unfoldable pub millionths_of : List ℕ → ℕ
 millionths_of text =
-    number_of (whole_part text) * 10 ^ 6
-    + number_of (fraction_part text) * 10 ^ (6 - length (fraction_part text))
+    decimal_value (whole_part text) * 10 ^ 6
+    + decimal_value (fraction_part text) * 10 ^ (6 - length (fraction_part text))
 
 abbrev pub is_negative : List ℕ → Bool
 is_negative text = slice_index text 0 == minus

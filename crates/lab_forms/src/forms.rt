@@ -3,7 +3,7 @@ ghost use Rattle.std.specs.Prelude.{◌≡◌, ◌≢◌, Some, IfSome, IfOk, If
 ghost use Rattle.std.specs.List.{list_all};
 ghost use Rattle.std.specs.Option.{option_copied};
 ghost use Rattle.std.specs.Cmp.{partial_equiv_from_equiv};
-ghost use Rattle.lab_forms.specs.Forms.{is_form, is_field, form_made, field_eq, form_eq, field_of, fits_form, kind_refusal, value_refusal, IsTold};
+ghost use Rattle.lab_forms.specs.Forms.{is_form, is_field, form_made, field_eq, form_eq, field_of, fits_form, kind_refusal, value_refusal, IsFirstFault};
 ghost use Rattle.lab_forms.specs.Kinds.{is_kind, fits};
 
 use crate::kinds::Kind;
@@ -191,7 +191,7 @@ impl Form {
             (λ _. IsTrue (fits_form self.now.fields key.now text.now unit.now)) }
         ensures value { IfOk result (λ value. value ≡ text.now) }
         ensures fault { IfErr result
-            (IsTold (value_refusal self.now.fields key.now text.now unit.now)) }
+            (IsFirstFault (value_refusal self.now.fields key.now text.now unit.now)) }
     {
         let Some(field) = self.field(key) else {
             return Err(FormFault::Refused(FormRefusal::NoSuchField));
@@ -272,7 +272,7 @@ fn read_as(kind: &Kind, alloc: Global, text: &str, unit: &Unit) -> Result<Value,
     requires { IsTrue (is_kind kind.now) }
     ensures fits { IfOk result (λ _. IsTrue (fits kind.now text.now unit.now)) }
     ensures value { IfOk result (λ value. value ≡ text.now) }
-    ensures fault { IfErr result (IsTold (kind_refusal kind.now text.now unit.now)) }
+    ensures fault { IfErr result (IsFirstFault (kind_refusal kind.now text.now unit.now)) }
 {
     if !kind.takes(text) {
         return Err(FormFault::Refused(FormRefusal::BadValue));

@@ -1,6 +1,6 @@
 //! The numbers in values and bounds.
 ghost use Rattle.std.specs.Prelude.{length, ◌≡◌, ◌≤◌, ◌<◌, ◌^◌, ℕ, Some, None, if◌then◌else◌, IfSome, position};
-ghost use Rattle.lab_forms.specs.Numbers.{is_point, is_digits, number_of, is_unsigned_number, millionths_of, without_sign, amount_read, without_comparison};
+ghost use Rattle.lab_forms.specs.Numbers.{is_point, is_digits, decimal_value, is_unsigned_number, millionths_of, without_sign, amount_read, without_comparison};
 
 /// The most digits before the point.
 const WHOLE_DIGITS: usize = 15;
@@ -11,10 +11,10 @@ pub const DECIMALS_LIMIT: u32 = 6;
 const MILLION: u128 = 1_000_000;
 
 /// Returns the number that a text writes with 1 to `most` decimal digits.
-#[tactic(auto, unfolding(crate::specs::Numbers::is_digits, crate::specs::Numbers::number_of))]
+#[tactic(auto, unfolding(crate::specs::Numbers::is_digits, crate::specs::Numbers::decimal_value))]
 pub fn read_digits(most: usize, text: &[u8]) -> Option<u64>
     requires { most ≤ 15 }
-    ensures value { result ≡ (if is_digits most text.now then Some (number_of text.now) else None) }
+    ensures value { result ≡ (if is_digits most text.now then Some (decimal_value text.now) else None) }
     ensures bound { IfSome result (λ number. number < 10 ^ most) }
     ensures few { IfSome result (λ number. length text.now ≤ most) }
 {

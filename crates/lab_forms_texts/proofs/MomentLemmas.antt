@@ -54,7 +54,7 @@ unfolding hour_of minute_of second_of
 second_back n = omega (arith, (own_date (day_of n)).counted)
 
 -- what the digits of a moment's text tell
-pub record Tells (text : List ℕ) (n : ℕ) : Type 0 where
+pub record SpellsMoment (text : List ℕ) (n : ℕ) : Type 0 where
   pub long : length text ≡ 20
   pub century : two_at text 0 ≡ year_of (day_of n) / 100
   pub year : two_at text 2 ≡ year_of (day_of n) % 100
@@ -67,7 +67,7 @@ pub record Tells (text : List ℕ) (n : ℕ) : Type 0 where
 digits_back : (n : ℕ) → n < 100 → (48 + n / 10 - 48) * 10 + (48 + n % 10 - 48) ≡ n
 digits_back n low = omega arith
 
-own_tells : (n : ℕ) → IsTrue (is_moment n) → Tells (moment_text n) n
+own_tells : (n : ℕ) → IsTrue (is_moment n) → SpellsMoment (moment_text n) n
 unfolding moment_text
 own_tells n is =
     let w = in_width n is in
@@ -82,7 +82,7 @@ own_tells n is =
       second = digits_back (second_of n) (omega (arith, w.second));
     }
 
-tells : (text : List ℕ) (n : ℕ) → IsTrue (is_moment n) → text ≡ moment_text n → Tells text n
+tells : (text : List ℕ) (n : ℕ) → IsTrue (is_moment n) → text ≡ moment_text n → SpellsMoment text n
 tells text n is e = rw e (own_tells n is)
 
 told_back : (n : ℕ) → IsTrue (is_moment n) → second_told (moment_text n) ≡ n
@@ -125,14 +125,14 @@ none_found text none None e = refl
 none_found text none (Some n) e = let read = moment_sound text n e in absurd (none n read.0 read.1)
 
 -- what the digits tell of a moment's text: nothing, another moment, or the moment
-abbrev pub IsTold : List ℕ → Option ℕ → Type 0
-IsTold text o = (n : ℕ) → IsTrue (is_moment n) → text ≡ moment_text n → o ≡ Some n
+abbrev pub IsMomentRead : List ℕ → Option ℕ → Type 0
+IsMomentRead text o = (n : ℕ) → IsTrue (is_moment n) → text ≡ moment_text n → o ≡ Some n
 
-pub none_told : (text : List ℕ) (o : Option ℕ) → IsTold text o → o ≡ None → None ≡ moment_of text
+pub none_told : (text : List ℕ) (o : Option ℕ) → IsMomentRead text o → o ≡ None → None ≡ moment_of text
 none_told text o told none =
     none_found text (λ n is e. let never : None ≡ Some n = sym none ∙ told n is e in absurd (cc never)) (moment_of text) refl
 
-pub other_told : (text : List ℕ) (o : Option ℕ) (m : ℕ) → IsTold text o → o ≡ Some m → bytes_eq (moment_text m) text ≡ false → None ≡ moment_of text
+pub other_told : (text : List ℕ) (o : Option ℕ) (m : ℕ) → IsMomentRead text o → o ≡ Some m → bytes_eq (moment_text m) text ≡ false → None ≡ moment_of text
 other_told text o m told some differs = none_found text (λ n is e.
     let both : Some m ≡ Some n = sym some ∙ told n is e in
     let one : m ≡ n = cc both in

@@ -13,7 +13,7 @@ use Rattle.lab_move.specs.declared.faults.MoveFault.{MoveFault}
 use Rattle.lab_move.specs.declared.faults.MoveFault.TheVariants.{File, NotSound}
 use Rattle.lab_move.specs.Faults.{IsOfStore, is_early}
 use Rattle.lab_move.specs.OldFiles.{IsNamedOldFile, IsOldVerdict, IsNoneOfOld, OldAnswers}
-use Rattle.lab_move.specs.Moving.{AreCounted, BlamesFirstOfAll, HasCause, IsMoved, IsRead, IsWhole}
+use Rattle.lab_move.specs.Moving.{AreCounted, BlamesFirstOfAll, HasCause, IsMoved, ReadsOldAs, IsWhole}
 use Rattle.lab_move.proofs.Codes.{as_many}
 
 -- ---- the verdict on the old file
@@ -105,7 +105,7 @@ filled_late Same mid after (Err (NotSound lab)) h = λ early. absurd cc
 
 -- ---- what was moved
 
-pub all_moved : {F : Type 0} (before after new : State) (r : Result ℕ F) (t : Tables) → IsRead before after t → IfOk r (AreCounted (codes_of t) t)
+pub all_moved : {F : Type 0} (before after new : State) (r : Result ℕ F) (t : Tables) → ReadsOldAs before after t → IfOk r (AreCounted (codes_of t) t)
     → OnOk r (IsTrue new.is_open × IsWhole before after new.now) → IfOk r (IsMoved t (tables_of new))
 all_moved before after new (Ok count) t read counted whole = record { count = as_many t ∙ counted.0; sound = counted.1; same = whole.1.same t read }
 all_moved before after new (Err e) t read counted whole = tt

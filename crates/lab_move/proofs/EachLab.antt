@@ -12,7 +12,7 @@ use Rattle.lab_move_tables.proofs.OldReaders.{none_read, may_both, may_and, stan
 use Rattle.lab_move_files.specs.Commits.{MakesAtOnce}
 use Rattle.lab_move_files.proofs.Commits.{told_ok}
 use Rattle.lab_move.specs.declared.faults.MoveFault.{MoveFault}
-use Rattle.lab_move.specs.Moving.{Blames, CarriesFrom, Fills, HasThese, IsBegun, IsFirstUnsound, IsRead, IsSoundIn, IsUnsoundIn}
+use Rattle.lab_move.specs.Moving.{Blames, CarriesFrom, Fills, HasThese, IsBegun, IsFirstUnsound, ReadsOldAs, IsSoundIn, IsUnsoundIn}
 use Rattle.lab_move.proofs.FilledFiles.{none_carried, one_carried}
 use Rattle.lab_move.proofs.OneLab.{blames_as}
 use Rattle.lab_move.proofs.Steps.{no_step, step_more, steps_fail, steps_ok}
@@ -49,8 +49,8 @@ module _ {done : List (List ℕ)} {old mid was is : State} (so : HasMoved done o
   -- where it failed
   module _ {A F : Type 0} {now : State} {r : Result A F} (read : ReadsOld (λ t _. IsSoundIn t code) mid now r) where
     pub blamed_first : (codes rest : List (List ℕ)) → codes ≡ done ++ code ∷ rest → (one : List ℕ)
-        → (one ≡ code) × ((t : Tables) → IsRead mid now t → IsUnsoundIn t code)
-        → (t : Tables) → IsRead old now t → IsFirstUnsound t codes one
+        → (one ≡ code) × ((t : Tables) → ReadsOldAs mid now t → IsUnsoundIn t code)
+        → (t : Tables) → ReadsOldAs old now t → IsFirstUnsound t codes one
     blamed_first codes rest split one it t here =
         let clean = read.passes.clean here.1 in
         let unsound : IsUnsoundIn t code = it.1 t (stands_since (so.reads.shows clean) t here.0, here.1) in (

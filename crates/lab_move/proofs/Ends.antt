@@ -14,18 +14,18 @@ use Rattle.lab_store_files.specs.NewFiles.{IsBlank}
 use Rattle.lab_move_files.specs.Commits.{MakesAtOnce}
 use Rattle.lab_move_files.specs.Unfinished.{Begins, IsBeingFilled}
 use Rattle.lab_move_files.proofs.Refusals.{unnamed_refused, blank_refused}
-use Rattle.lab_move.specs.Moving.{IsBegun, FillsAll, IsRefused, IsSoundLab, IsStart, IsWhole, LeavesUnfinished}
+use Rattle.lab_move.specs.Moving.{IsBegun, FillsAll, IsNoInstallation, IsSoundLab, IsStart, IsWhole, LeavesUnfinished}
 use Rattle.lab_move.proofs.FilledFiles.{all_weaker, carried_from}
 
 -- ---- refused by `open`
 
 module _ {S : Type 0} (g : Ghosts S) where
-  pub filling_refused : (db : Database) → IsBeingFilled db → IsRefused g db
+  pub filling_refused : (db : Database) → IsBeingFilled db → IsNoInstallation g db
   filling_refused db filling old new answer is answers =
       let here : IsBeingFilled (state g old).now = subst IsBeingFilled (sym is) filling in
       unnamed_refused (state g old) (state g new) answer here.typed here.unnamed answers
 
-  pub empty_refused : (db : Database) → IsBlank db → IsRefused g db
+  pub empty_refused : (db : Database) → IsBlank db → IsNoInstallation g db
   empty_refused db blank old new answer is answers = blank_refused (state g old) (state g new) answer (subst IsBlank (sym is) blank) answers
 
 -- ---- all that a start asks
@@ -56,7 +56,7 @@ module _ {S : Type 0} (g : Ghosts S) {old new : State} (blank : IsBlank old.now)
       | inl same ↦ inl same
       | inr it ↦ inr (it.0, inl (filling_refused g it.0 (begun_of old.now it.0 blank it.1).filling), it.2)
     ];
-    rows = λ clean opened. subst (IsRefused g) (sym (p.rows clean opened)) (empty_refused g old.now blank);
+    rows = λ clean opened. subst (IsNoInstallation g) (sym (p.rows clean opened)) (empty_refused g old.now blank);
   }
 
 -- ---- where it was

@@ -12,7 +12,7 @@ use Rattle.lab_move_tables.specs.Reading.{ReadsOld}
 use Rattle.lab_move_tables.proofs.OldReaders.{stands_since}
 use Rattle.lab_move_files.specs.Unfinished.{Finishes}
 use Rattle.lab_move_read.specs.Laboratories.{codes_of, IsLabOf}
-use Rattle.lab_move.specs.Moving.{IsSoundLab, AreAll, IsRead, IsBegun, HasCarried, HasThese, IsWholeOf, IsWhole, CarriesFrom, meaning_among}
+use Rattle.lab_move.specs.Moving.{IsSoundLab, AreAll, ReadsOldAs, IsBegun, HasCarried, HasThese, IsWholeOf, IsWhole, CarriesFrom, meaning_among}
 use Rattle.lab_move.proofs.Codes.{all_among, lab_means, among_more}
 
 -- ---- facts on every laboratory
@@ -49,7 +49,7 @@ carried_from db same it = record { file = it.file; sound = it.sound; same = λ t
 
 -- in other words
 pub carried_as : {IsFile : Database → Type 0} {among other : Meaning → Meaning} {before after : State} (db : Database)
-    → ((t : Tables) → IsRead before after t → SameMeaning (other (meaning t)) (among (meaning t)))
+    → ((t : Tables) → ReadsOldAs before after t → SameMeaning (other (meaning t)) (among (meaning t)))
     → HasCarried IsFile before after among db
     → HasCarried IsFile before after other db
 carried_as db same it = record { file = it.file; sound = it.sound; same = λ t read code. it.same t read code ∙ same t read code }

@@ -17,7 +17,7 @@ use Rattle.lab_move_read.specs.declared.faults.WholeFault.TheVariants.{NotKept}
 use Rattle.lab_move_read.specs.Laboratories.{IsLabOf, IsUnkept}
 use Rattle.lab_move.specs.declared.faults.MoveFault.{MoveFault}
 use Rattle.lab_move.specs.declared.faults.MoveFault.TheVariants.{File, NotSound}
-use Rattle.lab_move.specs.Moving.{Blames, CarriesFrom, IsRead, IsSoundIn, IsSoundLab, IsUnsoundIn}
+use Rattle.lab_move.specs.Moving.{Blames, CarriesFrom, ReadsOldAs, IsSoundIn, IsSoundLab, IsUnsoundIn}
 
 -- ---- faults
 
@@ -38,7 +38,7 @@ abbrev pub PlacesFound : Option Lab → Database → Database → Type 0
 PlacesFound found was db = (lab : Lab) × (found ≡ Some lab) × IsSoundLab lab × Carries lab was db
 
 module _ {E : Type 0} (code : List ℕ) (found : Option Lab) {before after : State} (read : ReadsOld {E = E} (λ t it. IsLabOf t code it) before after (Ok found)) where
-  here : (t : Tables) → IsRead before after t → IsLabOf t code found
+  here : (t : Tables) → ReadsOldAs before after t → IsLabOf t code found
   here t so = read.answer t so.0 so.1
 
   pub lab_reads : {A F : Type 0} (r : Result A F) → OnOk r (FoundSound found) → ReadsOld (λ t _. IsSoundIn t code) before after r
@@ -55,13 +55,13 @@ module _ {E : Type 0} (code : List ℕ) (found : Option Lab) {before after : Sta
       (λ db one. (one.0, one.2, one.3, λ t so. subst (IsLabOf t code) one.1 (here t so))) it
 
   pub lab_blamed : (one : List ℕ) → (one ≡ code) × (lab : Lab) × (found ≡ Some lab) × ¬ (IsBound lab × IsDual lab)
-      → (one ≡ code) × ((t : Tables) → IsRead before after t → IsUnsoundIn t code)
+      → (one ≡ code) × ((t : Tables) → ReadsOldAs before after t → IsUnsoundIn t code)
   lab_blamed one it = (it.0, λ t so. inr (it.1, subst (IsLabOf t code) it.2 (here t so), it.3))
 
 -- where none was read
 pub unread_blamed : (code : List ℕ) (fault : WholeFault) (before after : State)
     → ((t : Tables) → StandsFor before.now t → HasCleanDisk after → fault ≡ NotKept → IsUnkept t code)
-    → (one : List ℕ) → (one ≡ code) × (fault ≡ NotKept) → (one ≡ code) × ((t : Tables) → IsRead before after t → IsUnsoundIn t code)
+    → (one : List ℕ) → (one ≡ code) × (fault ≡ NotKept) → (one ≡ code) × ((t : Tables) → ReadsOldAs before after t → IsUnsoundIn t code)
 unread_blamed code fault before after unkept one it = (it.0, λ t so. inl (unkept t so.0 so.1 it.1))
 
 pub on_ok_so : {A E P : Type 0} (r : Result A E) → P → OnOk r P

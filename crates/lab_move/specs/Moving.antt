@@ -25,7 +25,7 @@ use Rattle.lab_store_files.specs.declared.faults.FileFault.{FileFault}
 use Rattle.lab_store_files.specs.declared.faults.FileFault.TheVariants.{NotADeskFile, SchemaOld, SchemaNew, Storage, NotEmpty, Memory}
 use Rattle.lab_store_files.specs.Faults.{FailedInStore}
 use Rattle.lab_store_files.specs.Schemas.{is_taken}
-use Rattle.lab_store_files.specs.Verdicts.{Answers}
+use Rattle.lab_store_files.specs.Verdicts.{AnswersVerdict}
 use Rattle.lab_move_tables.specs.Standing.{StandsFor}
 use Rattle.lab_move_files.specs.Unfinished.{IsBeingFilled}
 use Rattle.lab_move_write.specs.Carrying.{Carries}
@@ -73,8 +73,8 @@ AreAll Holds held = (code : List ℕ) → WhereThere Holds (held code)
 
 -- what was read of the old file, from one moment to a later one, says what these tables mean, for
 -- which the file stands
-abbrev pub IsRead : State → State → Tables → Type 0
-IsRead before after t = StandsFor before.now t × HasCleanDisk after
+abbrev pub ReadsOldAs : State → State → Tables → Type 0
+ReadsOldAs before after t = StandsFor before.now t × HasCleanDisk after
 
 -- no laboratory is in it yet
 pub record IsBegun (db : Database) : Type 0 where
@@ -86,7 +86,7 @@ pub record HasCarried (IsFile : Database → Type 0) (before after : State)
     (among : Meaning → Meaning) (db : Database) : Type 0 where
   pub file : IsFile db
   pub sound : AreAll IsSoundLab (meaning (tables_in db.trees))
-  pub same : (t : Tables) → IsRead before after t → SameMeaning (among (meaning t))
+  pub same : (t : Tables) → ReadsOldAs before after t → SameMeaning (among (meaning t))
       (meaning (tables_in db.trees))
 
 -- it is being filled, and has those of these codes
@@ -105,7 +105,7 @@ IsWhole before after = HasCarried IsKept before after (λ held. held)
 abbrev pub CarriesFrom : State → State → List ℕ → Database → Database → Type 0
 CarriesFrom before after code was db =
     (lab : Lab) × IsSoundLab lab × Carries lab was db
-    × ((t : Tables) → IsRead before after t → IsLabOf t code (Some lab))
+    × ((t : Tables) → ReadsOldAs before after t → IsLabOf t code (Some lab))
 
 -- ---- a call that commits more than once, however it ends
 
@@ -172,12 +172,12 @@ Blames Holds (NotSound lab) = Holds lab
 -- the laboratory is the first of these that isn't sound
 abbrev pub BlamesFirst : State → State → List (List ℕ) → MoveFault → Type 0
 BlamesFirst before after codes =
-    Blames (λ lab. (t : Tables) → IsRead before after t → IsFirstUnsound t codes lab)
+    Blames (λ lab. (t : Tables) → ReadsOldAs before after t → IsFirstUnsound t codes lab)
 
 -- or of all that the old file has
 abbrev pub BlamesFirstOfAll : State → State → MoveFault → Type 0
 BlamesFirstOfAll before after =
-    Blames (λ lab. (t : Tables) → IsRead before after t → IsFirstUnsound t (codes_of t) lab)
+    Blames (λ lab. (t : Tables) → ReadsOldAs before after t → IsFirstUnsound t (codes_of t) lab)
 
 -- by the old file before and after the call, and the new one before it
 abbrev pub HasCause : State → State → State → MoveFault → Type 0
@@ -191,15 +191,15 @@ HasCause before after fresh (File Storage) = Unit {0}
 HasCause before after fresh (File NotEmpty) = IsTrue (is_taken fresh.now.schema)
 HasCause before after fresh (File Memory) = Unit {0}
 HasCause before after fresh (NotSound lab) =
-    (t : Tables) → IsRead before after t → IsFirstUnsound t (codes_of t) lab
+    (t : Tables) → ReadsOldAs before after t → IsFirstUnsound t (codes_of t) lab
 
 -- ---- what it leaves of a new file that was empty
 
 -- whoever opens it is told that it is none in which laboratories are kept
-abbrev pub IsRefused : {S : Type 0} → Ghosts S → Database → Type 0
-IsRefused {S} g db =
+abbrev pub IsNoInstallation : {S : Type 0} → Ghosts S → Database → Type 0
+IsNoInstallation {S} g db =
     (old new : Held S) (answer : Result (Unit {0}) FileFault) → (state g old).now ≡ db
-    → Answers (state g old) (state g new) answer
+    → AnswersVerdict (state g old) (state g new) answer
     → (answer ≡ Err NotADeskFile) ⊎ FailedInStore answer
 
 pub record LeavesUnfinished {S : Type 0} (g : Ghosts S) (before after : State) {A E : Type 0}
@@ -208,6 +208,6 @@ pub record LeavesUnfinished {S : Type 0} (g : Ghosts S) (before after : State) {
   -- the whole one
   pub crash : HasCleanDisk new → IsTrue old.is_open → (trees : Trees) → new.may_leave trees
       → old.may_leave trees
-      ⊎ ((db : Database) × (IsRefused g db ⊎ IsWhole before after db) × (trees ≡ db.trees))
+      ⊎ ((db : Database) × (IsNoInstallation g db ⊎ IsWhole before after db) × (trees ≡ db.trees))
   -- where the call failed, the file is refused, as it would have been before
-  pub rows : WhereShown new (OnErr result (IsRefused g new.now))
+  pub rows : WhereShown new (OnErr result (IsNoInstallation g new.now))

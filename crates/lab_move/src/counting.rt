@@ -6,7 +6,7 @@ ghost use Rattle.sqlite.specs.Held.{state};
 ghost use Rattle.sqlite.specs.State.{HasCleanDisk};
 ghost use Rattle.lab_store_tables.specs.Held.{IsTyped};
 ghost use Rattle.lab_store_tables.specs.Ready.{tables_of};
-ghost use Rattle.lab_store_read.specs.Reads.{Asks};
+ghost use Rattle.lab_store_read.specs.Reads.{AsksQuery};
 ghost use Rattle.lab_move_tables.specs.Reading.{ReadsOld};
 ghost use Rattle.lab_move.specs.Counting.{AreAlike, AreCounts, HasAsMany, cell, counts_text};
 ghost use Rattle.lab_move.specs.Faults.{IsOfStore};
@@ -26,14 +26,14 @@ const TABLES: usize = 11;
 
 // What the question shows of an old file.
 fn old_rows<D: Readable>(old: &mut D) -> Result<Vec<Row>, ReadFault>
-    ensures { Asks counts_text [] (D.state old.old) (D.state old.new) result }
+    ensures { AsksQuery counts_text [] (D.state old.old) (D.state old.new) result }
 {
     old.query_all(QUESTION, &[])
 }
 
 // What it shows of a new one.
 fn new_rows<T: Alter>(new: &mut Connection<T>) -> Result<Vec<Row>, ReadFault>
-    ensures { Asks counts_text [] (state T.Store new.old) (state T.Store new.new) result }
+    ensures { AsksQuery counts_text [] (state T.Store new.old) (state T.Store new.new) result }
 {
     match new.query_all(QUESTION, &[]) {
         Ok(rows) => Ok(rows),

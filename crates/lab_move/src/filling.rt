@@ -17,7 +17,7 @@ ghost use Rattle.lab_move_write.specs.Carrying.{Carries};
 ghost use Rattle.lab_move_read.specs.declared.faults.WholeFault.TheVariants.{NotKept};
 ghost use Rattle.lab_move_read.specs.Laboratories.{codes_of};
 ghost use Rattle.lab_move.specs.Counting.{HasAsMany};
-ghost use Rattle.lab_move.specs.Moving.{Blames, BlamesFirst, BlamesFirstOfAll, CarriesFrom, Fills, FillsAll, HasThese, AreCounted, IsBegun, IsRead, IsSoundIn, IsSoundLab, IsUnsoundIn, IsWhole, IsWholeOf};
+ghost use Rattle.lab_move.specs.Moving.{Blames, BlamesFirst, BlamesFirstOfAll, CarriesFrom, Fills, FillsAll, HasThese, AreCounted, IsBegun, ReadsOldAs, IsSoundIn, IsSoundLab, IsUnsoundIn, IsWhole, IsWholeOf};
 
 use crate::counting::compare_counts;
 use crate::faults::{MoveFault, store_fault};
@@ -119,7 +119,7 @@ fn move_lab<D: Readable, T: Alter, P: MoveProgress>(
     ensures carries { MakesAtOnce (CarriesFrom (D.state old.old) (D.state old.new) code.now
         (state T.Store new.old).now) result (state T.Store new.old) (state T.Store new.new) }
     ensures fault { IfErr result (Blames (λ one. (one ≡ code.now)
-        × ((t : Tables) → IsRead (D.state old.old) (D.state old.new) t →
+        × ((t : Tables) → ReadsOldAs (D.state old.old) (D.state old.new) t →
         IsUnsoundIn t code.now))) }
 {
     match whole(alloc, old, code) {

@@ -17,7 +17,7 @@ ghost use Rattle.lab_move_files.specs.Unfinished.{Begins, IsBeingFilled};
 ghost use Rattle.lab_move.specs.declared.faults.MoveFault.TheVariants.{File};
 ghost use Rattle.lab_move.specs.Counting.{HasAsMany};
 ghost use Rattle.lab_move.specs.Faults.{is_early};
-ghost use Rattle.lab_move.specs.Moving.{HasCause, IsMoved, IsRefused, IsStart, LeavesUnfinished};
+ghost use Rattle.lab_move.specs.Moving.{HasCause, IsMoved, IsNoInstallation, IsStart, LeavesUnfinished};
 ghost use Rattle.lab_move.specs.OldFiles.{IsNamedOldFile, is_old_desk};
 
 use crate::faults::MoveFault;
@@ -32,8 +32,8 @@ use std::alloc::Global;
 /// Law: a file that was left while it was being filled is none in which laboratories are kept, and
 /// neither is an empty one: `open` of `lab_store_files` says so, or that the store refused.
 pub fn an_unfinished_file_is_refused<S: Alter>()
-    ensures filling { (db : Database) → IsBeingFilled db → IsRefused S.Store db }
-    ensures blank { (db : Database) → IsBlank db → IsRefused S.Store db }
+    ensures filling { (db : Database) → IsBeingFilled db → IsNoInstallation S.Store db }
+    ensures blank { (db : Database) → IsBlank db → IsNoInstallation S.Store db }
 {}
 
 /// Law: a file whose tables are, text for text, those of schema 2, in our style or in that of

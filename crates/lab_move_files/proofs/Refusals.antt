@@ -18,7 +18,7 @@ use Rattle.lab_store_files.specs.declared.faults.FileFault.{FileFault}
 use Rattle.lab_store_files.specs.declared.faults.FileFault.TheVariants.{NotADeskFile}
 use Rattle.lab_store_files.specs.Faults.{FailedInStore}
 use Rattle.lab_store_files.specs.NewFiles.{IsBlank}
-use Rattle.lab_store_files.specs.Verdicts.{number_query, file_verdict, Answers}
+use Rattle.lab_store_files.specs.Verdicts.{number_query, file_verdict, AnswersVerdict}
 use Rattle.lab_move_files.proofs.Statements.{desk_query, query_is, query_unlisted, query_plain, query_refused}
 
 abbrev number_row : DeskRow → Row
@@ -38,13 +38,13 @@ never_shown : (old new : State) (rows : List Row) → IsBlank old.now → ¬ Sho
 unfolding Shown
 never_shown old new rows blank h = absurd (let known = sym query_refused ∙ ap (λ s. understood s number_query) (sym blank) ∙ h.1.is in cc)
 
-pub unnamed_refused : (old new : State) (answer : Result (Unit {0}) FileFault) → IsTyped old.now → (tables_of old).desk ≡ [] → Answers old new answer
+pub unnamed_refused : (old new : State) (answer : Result (Unit {0}) FileFault) → IsTyped old.now → (tables_of old).desk ≡ [] → AnswersVerdict old new answer
     → (answer ≡ Err NotADeskFile) ⊎ FailedInStore answer
 unnamed_refused old new answer typed none (inl (inl unasked)) = inl unasked.1
 unnamed_refused old new answer typed none (inl (inr it)) = inl (it.2 ∙ ap (file_verdict old.now.schema) (none_shown old new it.0 typed none it.1))
 unnamed_refused old new answer typed none (inr failed) = inr failed
 
-pub blank_refused : (old new : State) (answer : Result (Unit {0}) FileFault) → IsBlank old.now → Answers old new answer → (answer ≡ Err NotADeskFile) ⊎ FailedInStore answer
+pub blank_refused : (old new : State) (answer : Result (Unit {0}) FileFault) → IsBlank old.now → AnswersVerdict old new answer → (answer ≡ Err NotADeskFile) ⊎ FailedInStore answer
 blank_refused old new answer blank (inl (inl unasked)) = inl unasked.1
 blank_refused old new answer blank (inl (inr it)) = absurd (never_shown old new it.0 blank it.1)
 blank_refused old new answer blank (inr failed) = inr failed

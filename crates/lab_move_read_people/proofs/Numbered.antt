@@ -6,7 +6,7 @@ use Rattle.sqlite_value.specs.Order.{Row, column}
 use Rattle.sqlite_rules.specs.Edit.{id_in}
 use Rattle.lab_store_tables.specs.Rows.{number_in}
 use Rattle.lab_move_tables.specs.KeptLabs.{run_after, run}
-use Rattle.lab_move_tables.specs.Checks.{are_numbered_after, are_numbered, are_owned}
+use Rattle.lab_move_tables.specs.Checks.{are_numbered_after, are_rows_numbered, are_owned}
 use Rattle.lab_move_read_people.specs.Kept.{are_counted}
 
 module _ {X : Type 0} (show : X → Row) where
@@ -14,7 +14,7 @@ module _ {X : Type 0} (show : X → Row) where
   numbered_from at number is before [] = refl
   numbered_from at number is before (x ∷ xs) = ap₂ (λ n more. (n == before + 1) && more) (is x) (numbered_from at number is (before + 1) xs)
 
-  pub numbered_is : (at : ℕ) (number : X → ℕ) → ((x : X) → number_in (column (show x) at) ≡ number x) → (xs : List X) → are_numbered at (map show xs) ≡ run number xs
+  pub numbered_is : (at : ℕ) (number : X → ℕ) → ((x : X) → number_in (column (show x) at) ≡ number x) → (xs : List X) → are_rows_numbered at (map show xs) ≡ run number xs
   numbered_is at number is xs = numbered_from at number is 0 xs
 
   pub counted_is : (at count : ℕ) (number : X → ℕ) → ((x : X) → number_in (column (show x) at) ≡ number x) → (xs : List X)

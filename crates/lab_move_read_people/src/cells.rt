@@ -11,7 +11,7 @@ ghost use Rattle.lab_move_read_people.specs.Kept.{are_counted};
 
 use lab_forms::Bound;
 use lab_forms_texts::{Moment, NameFault, Note, Notes, Text};
-use lab_move_tables::are_numbered;
+use lab_move_tables::are_rows_numbered;
 use lab_people_access::Roles;
 use lab_records_kept::Subject;
 use lab_store_read::cells::{cell_of, moment_of, small_if, small_of};
@@ -211,7 +211,7 @@ pub fn are_counted(rows: &[Row], at: usize, count: u64) -> Result<bool, ReadFaul
     if rows.len() as u64 != count {
         return Ok(false);
     }
-    are_numbered(rows, at)
+    are_rows_numbered(rows, at)
 }
 
 // The bytes of a text, which may be a bound.

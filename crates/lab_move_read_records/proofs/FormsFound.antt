@@ -16,7 +16,7 @@ use Rattle.lab_move_tables.specs.Standing.{AreLifted}
 use Rattle.lab_move_tables.specs.Owned.{own_forms, own_fields, own_choices}
 use Rattle.lab_move_tables.specs.KeptLabs.{run, next_of, run_by_code, are_kept_names, is_kept_field, are_kept_fields, is_kept_form, are_kept_forms}
 use Rattle.lab_move_tables.specs.Shown.{form_shown, forms_shown, field_shown, fields_shown, choice_shown, choices_shown}
-use Rattle.lab_move_tables.specs.Checks.{are_numbered}
+use Rattle.lab_move_tables.specs.Checks.{are_rows_numbered}
 use Rattle.lab_move_read_records.specs.declared.heads.FieldHead.{FieldHead}
 use Rattle.lab_move_read_records.specs.declared.heads.FormHead.{FormHead}
 use Rattle.lab_move_read_records.specs.declared.heads.FormAt.{FormAt}
@@ -28,7 +28,7 @@ use Rattle.lab_move_tables.proofs.OldOnes.{old_forms, all_same}
 
 -- ---- names
 
-pub names_done : (t : Tables) (field : ℤ) → where_kept (are_numbered 1 (choices_shown t field)) (map name_read (choices_shown t field)) ≡ where_kept (are_kept_names t field) (names_of t field)
+pub names_done : (t : Tables) (field : ℤ) → where_kept (are_rows_numbered 1 (choices_shown t field)) (map name_read (choices_shown t field)) ≡ where_kept (are_kept_names t field) (names_of t field)
 names_done t field =
     ap₂ where_kept (numbered_is choice_shown 1 (λ (one : ChoiceRow). one.place) (λ one. refl) (own_choices t field)) (map-map name_read choice_shown (own_choices t field))
 
@@ -47,10 +47,10 @@ cells_back one = λ i. record {
 field_back : (one : FieldRow) → field_read (field_shown one) ≡ field_head one
 field_back one = λ i. record (field_head one) { required = flag_back one.required i; kind = kind_in (cells_back one i) [] }
 
-places : (t : Tables) (form : ℤ) → are_numbered 10 (fields_shown t form) ≡ run (λ (field : FieldRow). field.place) (own_fields t form)
+places : (t : Tables) (form : ℤ) → are_rows_numbered 10 (fields_shown t form) ≡ run (λ (field : FieldRow). field.place) (own_fields t form)
 places t form = numbered_is field_shown 10 (λ (one : FieldRow). one.place) (λ one. refl) (own_fields t form)
 
-pub fields_found : (t : Tables) (form : ℤ) → where_kept (are_numbered 10 (fields_shown t form)) (map field_read (fields_shown t form)) ≡ field_heads_tried t form
+pub fields_found : (t : Tables) (form : ℤ) → where_kept (are_rows_numbered 10 (fields_shown t form)) (map field_read (fields_shown t form)) ≡ field_heads_tried t form
 fields_found t form = ap₂ where_kept (places t form) (map-map field_read field_shown (own_fields t form) ∙ map_same _ _ field_back (own_fields t form))
 
 field_built : (t : Tables) (one : FieldRow) → field_by t (field_head one) ≡ field_in t one

@@ -22,7 +22,7 @@ use Rattle.lab_store_read.proofs.Finds.{found_alone}
 use Rattle.lab_store_read.proofs.Lists.{both_filtered}
 use Rattle.lab_store_read_records.specs.declared.heads.RecordHead.{RecordHead}
 use Rattle.lab_store_read_records.specs.Heads.{record_head}
-use Rattle.lab_store_read_records.specs.Shown.{record_read}
+use Rattle.lab_store_read_records.specs.Shown.{record_head_of}
 use Rattle.lab_store_read_forms.specs.Wholes.{record_with}
 use Rattle.lab_move_tables.specs.Standing.{AreLifted}
 use Rattle.lab_move_tables.specs.Owned.{own_forms, own_records, own_versions, own_entries, own_signatures, lab_of}
@@ -262,10 +262,10 @@ module _ (t : Tables) (rise : IsKeyedBy form_id t.forms) (lab : ℤ) where
 
 -- ---- records
 
-pub records_found : (t : Tables) (lab : ℤ) (count : ℕ) → where_kept (are_counted 1 count (records_shown t lab)) (map record_read (records_shown t lab)) ≡ record_heads_tried t lab count
+pub records_found : (t : Tables) (lab : ℤ) (count : ℕ) → where_kept (are_counted 1 count (records_shown t lab)) (map record_head_of (records_shown t lab)) ≡ record_heads_tried t lab count
 records_found t lab count =
     let own = own_records t lab in
-    ap₂ where_kept (counted_is record_shown 1 count (λ (one : RecordRow). one.number) (λ one. refl) own) (map-map record_read record_shown own)
+    ap₂ where_kept (counted_is record_shown 1 count (λ (one : RecordRow). one.number) (λ one. refl) own) (map-map record_head_of record_shown own)
 
 pub records_done : (t : Tables) (lab : ℤ) (code : List ℕ) (forms : List FormAt) (count : ℕ) (heads : List RecordHead) (found : Option (List Record)) → Some heads ≡ record_heads_tried t lab count
     → found ≡ where_kept (list_all (is_kept_record_head t lab forms) heads) (map (record_by t code forms) heads)

@@ -6,7 +6,7 @@ ghost use Rattle.lab_store_tables.specs.Meaning.{fields_of, names_of};
 ghost use Rattle.lab_store_read_forms.specs.KindsShown.{name_read};
 ghost use Rattle.lab_move_tables.specs.KeptLabs.{are_kept_names, are_kept_fields};
 ghost use Rattle.lab_move_tables.specs.Reading.{ReadsOld};
-ghost use Rattle.lab_move_tables.specs.Checks.{are_numbered};
+ghost use Rattle.lab_move_tables.specs.Checks.{are_rows_numbered};
 ghost use Rattle.lab_move_read_people.specs.Kept.{where_kept};
 ghost use Rattle.lab_move_read_records.specs.Forms.{field_read, field_by, field_with, is_kept_field_head, field_heads_tried};
 
@@ -15,7 +15,7 @@ use crate::kinds::{kind_of_row, kind_with};
 use lab_forms::Field;
 use lab_forms_texts::{Name, Series};
 use lab_move_read_people::cells::flag_of;
-use lab_move_tables::{are_numbered, choice_rows, field_rows};
+use lab_move_tables::{are_rows_numbered, choice_rows, field_rows};
 use lab_store_read::cells::{id_of, text_of};
 use lab_store_read::{ReadFault, Readable};
 use sqlite::Row;
@@ -35,9 +35,9 @@ fn names_of_rows(alloc: Global, rows: &[Row]) -> Result<Vec<Name>, ReadFault>
 // The names that rows show, where they are numbered.
 fn names_tried(alloc: Global, rows: &[Row]) -> Result<Option<Series<Name>>, ReadFault>
     ensures { IfOk result (λ found. found
-        ≡ where_kept (are_numbered 1 rows.now) (map name_read rows.now)) }
+        ≡ where_kept (are_rows_numbered 1 rows.now) (map name_read rows.now)) }
 {
-    if !are_numbered(rows, 1)? {
+    if !are_rows_numbered(rows, 1)? {
         return Ok(None);
     }
     Ok(Some(Series::from_vec(names_of_rows(alloc, rows)?)))
@@ -89,9 +89,9 @@ fn fields_of_rows(alloc: Global, rows: &[Row]) -> Result<Vec<FieldHead>, ReadFau
 // The fields that rows show, where they are numbered.
 fn fields_tried(alloc: Global, rows: &[Row]) -> Result<Option<Series<FieldHead>>, ReadFault>
     ensures { IfOk result (λ found. found
-        ≡ where_kept (are_numbered 10 rows.now) (map field_read rows.now)) }
+        ≡ where_kept (are_rows_numbered 10 rows.now) (map field_read rows.now)) }
 {
-    if !are_numbered(rows, 10)? {
+    if !are_rows_numbered(rows, 10)? {
         return Ok(None);
     }
     Ok(Some(Series::from_vec(fields_of_rows(alloc, rows)?)))

@@ -3,7 +3,7 @@
 ghost use Rattle.std.specs.Prelude.{◌≡◌, map, nat_le, bytes_eq, IfOk};
 ghost use Rattle.std.specs.List.{list_all};
 ghost use Rattle.lab_store_read_records.specs.Leaves.{leaf_of};
-ghost use Rattle.lab_store_read_records.specs.Shown.{record_read};
+ghost use Rattle.lab_store_read_records.specs.Shown.{record_head_of};
 ghost use Rattle.lab_store_read_forms.specs.Wholes.{record_with};
 ghost use Rattle.lab_move_tables.specs.Reading.{ReadsOld};
 ghost use Rattle.lab_move_read_people.specs.Kept.{where_kept, are_counted};
@@ -24,7 +24,7 @@ use std::alloc::Global;
 
 // The record that a row shows.
 fn record_of_row(alloc: Global, row: &Row) -> Result<RecordHead, ReadFault>
-    ensures { IfOk result (λ found. found ≡ record_read row.now) }
+    ensures { IfOk result (λ found. found ≡ record_head_of row.now) }
 {
     let id = id_of(row, 0)?;
     let number = ordinal_of(row, 1)?;
@@ -44,7 +44,7 @@ fn record_of_row(alloc: Global, row: &Row) -> Result<RecordHead, ReadFault>
 
 // The records that rows show.
 fn records_of_rows(alloc: Global, rows: &[Row]) -> Result<Vec<RecordHead>, ReadFault>
-    ensures { IfOk result (λ made. made.items ≡ map record_read rows.now) }
+    ensures { IfOk result (λ made. made.items ≡ map record_head_of rows.now) }
 {
     let mut made = Vec::new(alloc);
     for row in rows {
@@ -60,7 +60,7 @@ fn records_tried(
     count: u64,
 ) -> Result<Option<Series<RecordHead>>, ReadFault>
     ensures { IfOk result (λ found. found
-        ≡ where_kept (are_counted 1 count rows.now) (map record_read rows.now)) }
+        ≡ where_kept (are_counted 1 count rows.now) (map record_head_of rows.now)) }
 {
     if !are_counted(rows, 1, count)? {
         return Ok(None);

@@ -4,7 +4,7 @@ use Rattle.std.specs.Prelude.{codes}
 use Rattle.sqlite_value.specs.declared.value.Value.TheVariants.{Int, Text}
 use Rattle.lab_move_tables.proofs.KnownOldFile.{lifted}
 use Rattle.lab_move_tables.specs.Shown.{codes_shown, persons_shown, owners_shown, sessions_shown, forms_shown, choices_shown, versions_shown, entries_shown, signatures_shown, trail_shown}
-use Rattle.lab_move_tables.specs.Checks.{are_numbered, are_owned}
+use Rattle.lab_move_tables.specs.Checks.{are_rows_numbered, are_owned}
 
 -- by the bytes of their codes, and not by their ids
 pub known_codes : codes_shown lifted ≡ (Text (codes "aqua") ∷ []) ∷ (Text (codes "brick") ∷ []) ∷ []
@@ -22,7 +22,7 @@ pub known_forms : forms_shown lifted (pos 7)
 known_forms = refl
 
 -- places run from 1 on, and whoever signed is of the laboratory, and not of another
-pub known_tests : (are_numbered 1 (choices_shown lifted (pos 4)) ≡ true) × (are_numbered 0 (trail_shown lifted (pos 7)) ≡ true) × (are_numbered 0 (forms_shown lifted (pos 7)) ≡ false)
-    × (are_numbered 6 (entries_shown lifted (pos 1)) ≡ true) × (are_owned 7 (pos 7) (entries_shown lifted (pos 1)) ≡ true)
+pub known_tests : (are_rows_numbered 1 (choices_shown lifted (pos 4)) ≡ true) × (are_rows_numbered 0 (trail_shown lifted (pos 7)) ≡ true) × (are_rows_numbered 0 (forms_shown lifted (pos 7)) ≡ false)
+    × (are_rows_numbered 6 (entries_shown lifted (pos 1)) ≡ true) × (are_owned 7 (pos 7) (entries_shown lifted (pos 1)) ≡ true)
     × (are_owned 8 (pos 7) (signatures_shown lifted (pos 1)) ≡ true) × (are_owned 8 (pos 3) (signatures_shown lifted (pos 1)) ≡ false)
 known_tests = (refl, refl, refl, refl, refl, refl, refl)

@@ -9,7 +9,7 @@ use Rattle.sqlite.specs.Effect.{Database}
 use Rattle.sqlite.specs.State.{State, HasCleanDisk, IsUnchanged}
 use Rattle.sqlite_resolve.specs.Compile.{first}
 use Rattle.lab_store_tables.specs.Rows.{Tables}
-use Rattle.lab_store_read.specs.Reads.{Asks}
+use Rattle.lab_store_read.specs.Reads.{AsksQuery}
 use Rattle.lab_store_read.proofs.Queries.{IsRead, same, if_then}
 use Rattle.lab_store_read.proofs.Readers.{unchanged_none, unchanged_then}
 use Rattle.lab_move_tables.specs.Showing.{ShowsOf}
@@ -32,7 +32,7 @@ stands_since same t file = subst (λ (db : Database). StandsFor db t) (sym same)
 -- ---- one query
 
 pub rows_read : {old new : State} {sql : List ℕ} {params : Row} {r : Result (Vec Row Global) (Fault BadStore)} {Answer : Tables → Vec Row Global → Type 0}
-    → IsRead (first sql) → Asks sql params old new r
+    → IsRead (first sql) → AsksQuery sql params old new r
     → ((t : Tables) → StandsFor old.now t → (rows : Vec Row Global) → ShowsOf old.now sql params rows.items → Answer t rows) → ReadsOld Answer old new r
 rows_read {old} {new} {sql} {params} {r} {Answer} read it exact =
     let before : HasCleanDisk new → HasCleanDisk old = λ clean. omega (arith, it.survives.clean) in

@@ -14,8 +14,8 @@ are_numbered_after at before (row ∷ others) =
     (number_in (column row at) == before + 1) && are_numbered_after at (before + 1) others
 
 -- they run from 1 on
-abbrev pub are_numbered : ℕ → List Row → Bool
-are_numbered at rows = are_numbered_after at 0 rows
+abbrev pub are_rows_numbered : ℕ → List Row → Bool
+are_rows_numbered at rows = are_numbered_after at 0 rows
 
 -- each has the laboratory in a column
 abbrev pub are_owned : ℕ → ℤ → List Row → Bool

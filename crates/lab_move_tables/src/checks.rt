@@ -1,7 +1,7 @@
 //! Whether rows that were shown in order are numbered from 1 on, and belong to one laboratory.
 
 ghost use Rattle.std.specs.Prelude.{◌≡◌, IfOk};
-ghost use Rattle.lab_move_tables.specs.Checks.{are_numbered, are_owned};
+ghost use Rattle.lab_move_tables.specs.Checks.{are_rows_numbered, are_owned};
 
 use lab_store_read::ReadFault;
 use lab_store_read::cells::{id_of, small_of};
@@ -11,8 +11,8 @@ use sqlite::Row;
 ///
 /// # Errors
 /// A row is none that is written, or memory ran out.
-pub fn are_numbered(rows: &[Row], at: usize) -> Result<bool, ReadFault>
-    ensures { IfOk result (λ yes. yes ≡ are_numbered at rows.now) }
+pub fn are_rows_numbered(rows: &[Row], at: usize) -> Result<bool, ReadFault>
+    ensures { IfOk result (λ yes. yes ≡ are_rows_numbered at rows.now) }
 {
     let mut next = 1u64;
     for row in rows {

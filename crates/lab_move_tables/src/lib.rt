@@ -12,7 +12,7 @@ mod people;
 mod records;
 mod trails;
 
-pub use checks::{are_numbered, are_owned};
+pub use checks::{are_owned, are_rows_numbered};
 pub use forms::{choice_rows, field_rows, form_rows};
 pub use labs::{code_rows, lab_rows};
 pub use laws::{a_peer_file_stands, an_exact_file_stands};

@@ -17,7 +17,7 @@ use Rattle.lab_store_tables.specs.Ready.{tables_of}
 use Rattle.lab_store_laws.specs.ByRules.{IsByRules}
 use Rattle.lab_store_laws.specs.Steps.{StepsBy}
 use Rattle.lab_store_write.specs.declared.statements.RowId.{RowId}
-use Rattle.lab_store_write.specs.Calls.{Answers, Steps, Writes}
+use Rattle.lab_store_write.specs.Calls.{AnswersCall, Steps, Writes}
 use Rattle.lab_store_write.proofs.Writers.{stays_then}
 use Rattle.lab_store_write_changes.specs.NewbornRows.{AddsLab}
 use Rattle.lab_move_laws.specs.Placings.{whole_changes, PlacesByRules}
@@ -50,7 +50,7 @@ places_by lab id a b c (Ok x) rules p inside q = whole_placed lab id a b c rules
 places_by lab id a b c (Err e) rules p inside q = tt
 
 module _ {T A E : Type 0} {lender : T → ℕ × ℕ} {state : T → State} (lab : Lab) where
-  pub writes_whole : {F : Type 0} (row : RowId) {a b c : T} {r : Result A E} → Answers {E = F} lender state (λ (one : RowId). AddsLab one.id lab) a b (Ok row)
+  pub writes_whole : {F : Type 0} (row : RowId) {a b c : T} {r : Result A E} → AnswersCall {E = F} lender state (λ (one : RowId). AddsLab one.id lab) a b (Ok row)
       → (IsTrue (state a).in_transaction → HasCleanDisk (state b) → IsTyped (state a).now → IsDatabase (state b).now)
       → MakesInTurn lender state row.id (whole_changes lab) b c r → Writes lender state (PlacesByRules lab) a c r
   writes_whole row {a} {b} {c} {r} p rules q = record {

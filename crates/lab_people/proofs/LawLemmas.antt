@@ -26,7 +26,7 @@ use Rattle.lab_people.specs.Accounts.{newcomer, enrolling, person_meant, meant_t
 use Rattle.lab_people.specs.Issues.{with_one_time_word, confirming_of}
 use Rattle.lab_people.specs.declared.accounts.Effect.{Effect}
 use Rattle.lab_people.specs.declared.issues.Issued.{Issued}
-use Rattle.lab_people.specs.Laws.{Try, person_left, person_after, HasAccount, IsWrong, AreWrong, IsNewCode, IsNewToken, IsRefused, AreClosed, own_refusal}
+use Rattle.lab_people.specs.Laws.{Try, person_left, person_after, HasAccount, IsWrong, AreWrong, IsNewCode, IsNewToken, IsRuleRefusal, AreClosed, own_refusal}
 
 -- Whom a command means.
 
@@ -82,11 +82,11 @@ stands_same : (still : Bool) (ask : Ask) (tick : Tick) (person : Person) → sti
 stands_same true ask tick person h = asked_same (bytes_eq ask.asker ask.asker) ask tick person (same_bytes ask.asker)
 stands_same false ask tick person h = absurd (cc)
 
-is_refused : {A : Type 0} (answer : Result A PeopleRefusal) (refusal : PeopleRefusal) → answer ≡ Err refusal → IsRefused answer
+is_refused : {A : Type 0} (answer : Result A PeopleRefusal) (refusal : PeopleRefusal) → answer ≡ Err refusal → IsRuleRefusal answer
 is_refused (Ok value) refusal h = absurd (cc)
 is_refused (Err other) refusal h = record {}
 
-asked_stands : (still : Bool) (ask : Ask) (tick : Tick) (person : Person) → IsRefused (confirming_while still ask tick person)
+asked_stands : (still : Bool) (ask : Ask) (tick : Tick) (person : Person) → IsRuleRefusal (confirming_while still ask tick person)
 asked_stands true ask tick person = is_refused _ SamePerson (stands_same true ask tick person refl)
 asked_stands false ask tick person = record {}
 
@@ -101,11 +101,11 @@ confirming_meant retired own person ask tick =
 
 -- the asker's confirmation is refused
 pub confirmed_meant : (retired own : Bool) (person : Person) (ask : Ask) (tick : Tick) → person.ask ≡ Some ask
-    → IsRefused (confirming_meant retired own person ask tick)
+    → IsRuleRefusal (confirming_meant retired own person ask tick)
 confirmed_meant true own person ask tick h = record {}
 confirmed_meant false true person ask tick h = record {}
 confirmed_meant false false person ask tick h =
-    subst (λ answer. IsRefused answer) (sym (asked_is person.ask ask tick person h)) (asked_stands (stands ask tick.moment) ask tick person)
+    subst (λ answer. IsRuleRefusal answer) (sym (asked_is person.ask ask tick person h)) (asked_stands (stands ask tick.moment) ask tick person)
 
 -- and told as the same person's, where all else is right
 pub confirmed_same : (retired own : Bool) (person : Person) (ask : Ask) (tick : Tick) → person.ask ≡ Some ask

@@ -74,9 +74,9 @@ abbrev pub own_refusal : Person → PeopleRefusal
 own_refusal person = if person.retired then NoSuchPerson else OwnIssue
 
 -- a rule on persons refuses
-abbrev pub IsRefused : {A : Type 0} → Result A PeopleRefusal → Type 0
-IsRefused (Ok value) = ⊥
-IsRefused (Err refusal) = Unit {0}
+abbrev pub IsRuleRefusal : {A : Type 0} → Result A PeopleRefusal → Type 0
+IsRuleRefusal (Ok value) = ⊥
+IsRuleRefusal (Err refusal) = Unit {0}
 
 -- all of the person's sessions are closed
 abbrev pub AreClosed : List ℕ → List Session → Type 0

@@ -12,7 +12,7 @@ ghost use Rattle.lab_people_access.specs.declared.refusals.Failure.TheVariants.{
 ghost use Rattle.lab_people_access.specs.declared.refusals.PeopleFault.TheVariants.{Failed};
 ghost use Rattle.lab_people_access.specs.declared.refusals.PeopleRefusal.TheVariants.{SamePerson, NoSuchPerson};
 ghost use Rattle.lab_people.specs.declared.accounts.Effect.{Effect as AnyEffect};
-ghost use Rattle.lab_people.specs.Laws.{IsNewCode, IsNewToken, IsRefused, AreClosed, AreRefused, AcceptsNone, StaysClosed, own_refusal};
+ghost use Rattle.lab_people.specs.Laws.{IsNewCode, IsNewToken, IsRuleRefusal, AreClosed, AreRefused, AcceptsNone, StaysClosed, own_refusal};
 ghost use Rattle.lab_people_access.specs.Persons.{person_of, stands};
 ghost use Rattle.lab_people_access.specs.Sessions.{is_live, session_of, session_after, sessions_after, touched_session, signed_session};
 ghost use Rattle.lab_people_access.specs.Attempts.{attempt_by, signing_attempt};
@@ -47,7 +47,7 @@ pub fn accounts_are_kept_by_others()
 /// refused with `SamePerson` while it can be confirmed.
 pub fn a_one_time_word_takes_two()
     ensures refused { (person : AnyPerson) (ask : AnyAsk) (tick : AnyTick) → person.ask ≡ Some ask →
-        IsRefused (confirming ask.asker (Some person) tick) }
+        IsRuleRefusal (confirming ask.asker (Some person) tick) }
     ensures same_person { (person : AnyPerson) (ask : AnyAsk) (tick : AnyTick) →
         person.ask ≡ Some ask → person.retired ≡ false → person.code ≢ ask.asker →
         stands ask tick.moment ≡ true →

@@ -14,9 +14,9 @@ use Rattle.lab_records_keeper.specs.declared.keeper.Keeper.{Ghosts as KeeperOf}
 use Rattle.lab_desk_events.specs.Runs.{IsAnswer}
 use Rattle.lab_program_replay.specs.declared.fault.ReplayFault.TheVariants.{Memory as ReplayMemory}
 use Rattle.lab_program_replay.specs.Event.{next_event}
-use Rattle.lab_program_replay.specs.Replay.{BeginsWith, Stops, Tells as TellsReplay}
+use Rattle.lab_program_replay.specs.Replay.{BeginsWith, Stops, PrintsReplayFault as TellsReplay}
 use Rattle.lab_copy_rows.specs.Copies.{verdict}
-use Rattle.lab_copy.specs.Checks.{rows_of}
+use Rattle.lab_copy.specs.Checks.{csv_rows_of}
 use Rattle.lab_program_check.specs.declared.faults.StopFault.TheVariants.{Memory as StopMemory}
 use Rattle.lab_program_check.specs.Verdicts.{IsCheck}
 use Rattle.lab_program_opening.specs.Faults.{unopened_fault}
@@ -88,7 +88,7 @@ no_replay input before after told_before told_after status told = record {
 
 no_check_of : (bytes : List ℕ) (before after told_before told_after : Option (List ℕ)) (status : Result ℕ Untold)
     → IsUnbegun before after told_before told_after status
-    → IsCheck (verdict (rows_of bytes)) status before after told_before told_after
+    → IsCheck (verdict (csv_rows_of bytes)) status before after told_before told_after
 no_check_of bytes before after told_before told_after (Ok number) told =
     record { ending = Err StopMemory; told = told.0; tells = told.1 }
 no_check_of bytes before after told_before told_after (Err untold) told =
@@ -96,7 +96,7 @@ no_check_of bytes before after told_before told_after (Err untold) told =
 
 no_check : (input before after told_before told_after : Option (List ℕ)) (status : Result ℕ Untold)
     → IsUnbegun before after told_before told_after status
-    → IfSome input (λ bytes. IsCheck (verdict (rows_of bytes)) status before after told_before told_after)
+    → IfSome input (λ bytes. IsCheck (verdict (csv_rows_of bytes)) status before after told_before told_after)
 no_check None before after told_before told_after status told = tt
 no_check (Some bytes) before after told_before told_after status told =
     no_check_of bytes before after told_before told_after status told

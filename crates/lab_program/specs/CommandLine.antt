@@ -3,7 +3,7 @@ use Rattle.std.specs.Prelude.{List, ℕ, Option, IfSome, nat_le}
 use Rattle.sqlite_trees.specs.Tree.{Trees}
 use Rattle.sqlite_trees.specs.declared.store.Store.{Ghosts}
 use Rattle.lab_copy_rows.specs.Copies.{verdict}
-use Rattle.lab_copy.specs.Checks.{rows_of}
+use Rattle.lab_copy.specs.Checks.{csv_rows_of}
 use Rattle.lab_program_check.specs.Verdicts.{IsCheck}
 use Rattle.lab_program_host.specs.Sources.{Drawing}
 use Rattle.lab_program_host.specs.TaskEnds.{TaskEnd}
@@ -35,7 +35,7 @@ IsDone disk holds volume drawing (copies file lab from to) input end =
 IsDone disk holds volume drawing (migrates old new) input end =
     IsMigration disk (holds volume old) (IsBlankAt disk holds new) end
 IsDone disk holds volume drawing checks input end = IfSome input (λ bytes.
-    IsCheck (verdict (rows_of bytes)) end.status end.before end.after end.told_before
+    IsCheck (verdict (csv_rows_of bytes)) end.status end.before end.after end.told_before
     end.told_after)
 IsDone disk holds volume drawing replays input end =
     IsReplay input end.before end.after end.told_before end.told_after end.status

@@ -8,7 +8,7 @@ use Rattle.lab_forms_texts.specs.Faults.{name_fault_entry}
 use Rattle.lab_forms_texts.specs.Names.{is_lab_code}
 use Rattle.lab_forms_texts.specs.declared.faults.BadName.{BadName}
 use Rattle.lab_forms_texts.specs.declared.refusals.Fault.{Fault}
-use Rattle.lab_program_host.specs.Faults.{Tells}
+use Rattle.lab_program_host.specs.Faults.{PrintsFault}
 use Rattle.lab_program_host.specs.TaskEnds.{TaskEnd}
 use Rattle.lab_program_serve.specs.RehearseTask.{IsRehearsal}
 use Rattle.lab_program_opening.specs.Files.{IsOpened, IsOurs}
@@ -24,7 +24,7 @@ front_of = option_map (take 1000001)
 -- nothing was done, and this word was told: the status is 1
 abbrev pub Declines : List ℕ → TaskEnd → Type 0
 Declines word end = Keeps end.before end.after
-    × Tells (λ (fault : List ℕ). fault) (Err word) end.status end.told_before end.told_after
+    × PrintsFault (λ (fault : List ℕ). fault) (Err word) end.status end.told_before end.told_after
 
 module _ (end : TaskEnd) (Done : Type 0) where
   -- by whether a text is a laboratory's code: so it was done; of a text that is none this is told,

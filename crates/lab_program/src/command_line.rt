@@ -6,7 +6,7 @@ ghost use Rattle.lab_program_host.specs.Sources.{drawing_of};
 ghost use Rattle.lab_program_app.specs.Apps.{labdesk_app};
 ghost use Rattle.lab_program.specs.CommandLine.{IsDone};
 ghost use Rattle.lab_program_app.specs.Explaining.{IsExplained};
-ghost use Rattle.lab_program_words.specs.Tasks.{Asked, Asks, IsTask};
+ghost use Rattle.lab_program_words.specs.Tasks.{Asked, AsksTask, IsTask};
 
 use crate::copies::check_for;
 use crate::laboratories::{copy_for, found_for, rehearse_for};
@@ -86,7 +86,7 @@ pub fn labdesk<
 ) -> Result<u8, WriteFault>
 where
     Connection<H::Disk>: Closing,
-    ensures done { (asked : Asked) → Asks asked (map S.text words.now) →
+    ensures done { (asked : Asked) → AsksTask asked (map S.text words.now) →
         IsDone H.Disk.Store H.holds host.old.volume
         (drawing_of (C.coming host.old.clock) (C.coming host.new.clock)
         (X.coming host.old.chance) (X.coming host.new.chance)) asked (R.remaining input) (record {

@@ -2,7 +2,7 @@
 
 ghost use Rattle.std.specs.Prelude.{IfSome};
 ghost use Rattle.lab_copy_rows.specs.Copies.{verdict};
-ghost use Rattle.lab_copy.specs.Checks.{rows_of};
+ghost use Rattle.lab_copy.specs.Checks.{csv_rows_of};
 ghost use Rattle.lab_program_check.specs.Verdicts.{IsCheck};
 
 use lab_forms_streams::WriteFault;
@@ -28,7 +28,7 @@ pub fn check_for<N, H: Volume, C, X, P, R: Read + Drop, W: Write, E: Write>(
     output: &mut W,
     errors: &mut E,
 ) -> Result<u8, WriteFault>
-    ensures { IfSome (R.remaining input) (λ bytes. IsCheck (verdict (rows_of bytes)) result
+    ensures { IfSome (R.remaining input) (λ bytes. IsCheck (verdict (csv_rows_of bytes)) result
         (W.contents output.old) (W.contents output.new)
         (E.contents errors.old) (E.contents errors.new)) }
 {

@@ -4,7 +4,7 @@ ghost use Rattle.std.specs.Io.Take.{take_remaining};
 ghost use Rattle.std.specs.Prelude.{◌≡◌, ℕ, pos, List, IsTrue, Err, nat_le};
 ghost use Rattle.lab_forms_texts.specs.Moment.{is_moment};
 ghost use Rattle.lab_forms_texts.specs.Ordinals.{is_ordinal};
-ghost use Rattle.lab_program_host.specs.Faults.{Tells};
+ghost use Rattle.lab_program_host.specs.Faults.{PrintsFault};
 ghost use Rattle.lab_program_host.specs.Sources.{drawing_of};
 ghost use Rattle.lab_program.specs.Laboratories.{IsCopied, IsCopiedIf, IsFounded, IsRehearsed, front_of};
 
@@ -32,7 +32,7 @@ fn front_of<R: Read + Drop>(input: R) -> Take<LimitedReader<R>>
 
 // Tells a word, and answers the status of a fault.
 fn decline<E: Write>(errors: &mut E, word: &str) -> Result<u8, WriteFault>
-    ensures { Tells (λ (fault : List ℕ). fault) (Err word.now) result
+    ensures { PrintsFault (λ (fault : List ℕ). fault) (Err word.now) result
         (E.contents errors.old) (E.contents errors.new) }
 {
     tell(errors, word)?;

@@ -6,13 +6,13 @@ use Rattle.clap.specs.declared.error.kind.ErrorKind.{ErrorKind}
 use Rattle.clap.specs.declared.error.kind.ErrorKind.TheVariants.{OutOfMemory, DisplayHelp, DisplayVersion}
 use Rattle.lab_forms_texts.specs.Faults.{memory_entry}
 use Rattle.lab_forms_streams.specs.declared.sending.WriteFault.{WriteFault as Untold}
-use Rattle.lab_program_host.specs.Faults.{IsTold, server_fault_word, told_line}
+use Rattle.lab_program_host.specs.Faults.{IsLinePrinted, server_fault_word, told_line}
 use Rattle.lab_program_host.specs.declared.faults.ServerFault.TheVariants.{Write}
 
 -- the program stopped, and told this word of it: the status is 1
 abbrev pub Stopped : List ℕ → Option (List ℕ) → Option (List ℕ) → Result ℕ Untold → Type 0
 Stopped word told_before told_after status =
-    IfOk status (λ n. n ≡ 1) × IsTold (told_line word) status told_before told_after
+    IfOk status (λ n. n ≡ 1) × IsLinePrinted (told_line word) status told_before told_after
 
 -- a text that was asked for went to standard output, and nothing was told; or the output failed
 abbrev pub Shows : Option (List ℕ) → Option (List ℕ) → Result ℕ Untold → Type 0

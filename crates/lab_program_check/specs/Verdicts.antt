@@ -88,9 +88,9 @@ IsStopTold fault (Err untold) before after =
     × (untold.sent < length (stop_line fault))
 
 -- nothing was told on standard error where nothing stopped the check, and else what did
-abbrev pub Tells : Result ℕ StopFault → Result ℕ Untold → (before after : Option (List ℕ)) → Type 0
-Tells (Ok told) status before after = (status ≡ Ok told) × Keeps before after
-Tells (Err fault) status before after = IsStopTold fault status before after
+abbrev pub PrintsStop : Result ℕ StopFault → Result ℕ Untold → (before after : Option (List ℕ)) → Type 0
+PrintsStop (Ok told) status before after = (status ≡ Ok told) × Keeps before after
+PrintsStop (Err fault) status before after = IsStopTold fault status before after
 
 -- a check of a copy of this verdict, by its status: what was told on standard output, and on
 -- standard error
@@ -98,4 +98,4 @@ pub record IsCheck (verdict : Result Counts Flaw) (status : Result ℕ Untold)
     (before after told_before told_after : Option (List ℕ)) : Type 0 where
   pub ending : Result ℕ StopFault
   pub told : IsVerdictTold verdict ending before after
-  pub tells : Tells ending status told_before told_after
+  pub tells : PrintsStop ending status told_before told_after

@@ -18,9 +18,9 @@ use Rattle.lab_store_tables.specs.Rows.{tables_in}
 use Rattle.lab_store_files.specs.NewFiles.{IsBlank, no_schema}
 use Rattle.lab_store_files.specs.declared.faults.FileFault.{FileFault}
 use Rattle.lab_store_files.specs.declared.faults.FileFault.TheVariants.{Memory, NotADeskFile, Storage}
-use Rattle.lab_store_files.specs.Verdicts.{Answers, file_verdict, number_shown, number_verdict, shown_verdict, whole_verdict}
+use Rattle.lab_store_files.specs.Verdicts.{AnswersVerdict, file_verdict, number_shown, number_verdict, shown_verdict, whole_verdict}
 use Rattle.lab_forms_texts.specs.declared.tick.Tick.{Tick}
-use Rattle.lab_records_copy_out.specs.Resting.{IsRead}
+use Rattle.lab_records_copy_out.specs.Resting.{IsOnlyRead}
 use Rattle.lab_desk_foundings.proofs.Bearing.{takes_founded, takes_refused}
 use Rattle.lab_desk_foundings.specs.declared.faults.FoundFault.{FoundFault}
 use Rattle.lab_desk_foundings.specs.declared.faults.FoundFault.TheVariants.{Body as OfBody, Birth as OfBirth, Placing}
@@ -265,7 +265,7 @@ moved_over disk opened last same shown passes live honest =
 -- ---- a copy
 
 pub copied_over : {S : Type 0} (disk : Ghosts S) (opened last : Held S) →
-    IsRead (file_world disk) (file_rests disk) opened last → (file_world disk opened).is_live →
+    IsOnlyRead (file_world disk) (file_rests disk) opened last → (file_world disk opened).is_live →
     Given (file_world disk opened) (file_world disk last) (IsRunOver disk opened last [])
 copied_over disk opened last read live honest reached = record {
   run = still_run (file_world disk opened) (file_world disk last) (read.passes.live honest)
@@ -325,7 +325,7 @@ unshown : (shown : Option ℤ) → ◌≡◌ {A = Result (Unit {0}) FileFault} (
 unshown None is = ok_is_no_fault tt NotADeskFile is
 unshown (Some number) is = unwhole (number_verdict number) is
 
-never_ours : (old new : State) → IsBlank old.now → Answers old new (Ok tt) → ⊥
+never_ours : (old new : State) → IsBlank old.now → AnswersVerdict old new (Ok tt) → ⊥
 never_ours old new blank (inl (inl unnamed)) = ok_is_no_fault tt NotADeskFile unnamed.1
 never_ours old new blank (inl (inr shown)) =
     unshown (number_shown shown.0)

@@ -3,12 +3,12 @@ use Rattle.std.specs.Prelude.{◌≡◌, ℕ, List, [], ◌∷◌, Option, None,
 use Rattle.std.specs.Io.KnownBytes.{Keeps}
 use Rattle.lab_records_keeper.specs.declared.keeper.Keeper.{Ghosts}
 use Rattle.lab_records_keeper.specs.Worlds.{Given}
-use Rattle.lab_program_host.specs.Sources.{Gives}
+use Rattle.lab_program_host.specs.Sources.{GivesInOrder}
 use Rattle.lab_program_host.specs.TaskEnds.{TaskEnd}
 use Rattle.lab_copy_rows.specs.Outs.{Sends}
 use Rattle.lab_records_copy_out.specs.declared.faults.CopyOutFault.{CopyOutFault}
 use Rattle.lab_records_copy_out.specs.Faults.{CopyFaultFits, copy_fault_word}
-use Rattle.lab_records_copy_out.specs.Resting.{IsRead}
+use Rattle.lab_records_copy_out.specs.Resting.{IsOnlyRead}
 use Rattle.lab_records_copy_out.specs.Walks.{CanWalk, copy_text, desk_order}
 use Rattle.lab_program_opening.specs.declared.faults.OpenFault.{OpenFault}
 use Rattle.lab_program_opening.specs.Faults.{TellsTask}
@@ -33,7 +33,7 @@ module _ {S : Type 0} (keeper : Ghosts S) (task : CopyTask) (opened : S → Type
     pub new : S
     pub begins : opened old
     pub moment : ℕ
-    pub given : Gives task.moments task.later (moment ∷ [])
+    pub given : GivesInOrder task.moments task.later (moment ∷ [])
     pub text : CanWalk (keeper.world old) task.code →
         Given (keeper.world old) (keeper.world new) (Sends before after
         (copy_text (desk_order task.from task.to moment) ((keeper.world old).meaning task.code))
@@ -44,7 +44,7 @@ module _ {S : Type 0} (keeper : Ghosts S) (task : CopyTask) (opened : S → Type
         (keeper.world old).may_refuse
         (Given (keeper.world old) (keeper.world new)
         (IsSome ((keeper.world old).meaning task.code))))
-    pub read : IsRead keeper.world keeper.rests old new
+    pub read : IsOnlyRead keeper.world keeper.rests old new
 
 -- the task `copy`, by its status and what was told: where the file wasn't opened or the clock
 -- failed, nothing went out

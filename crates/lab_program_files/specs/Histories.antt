@@ -15,14 +15,14 @@ use Rattle.lab_forms_texts.specs.declared.tick.Tick.{Tick}
 use Rattle.lab_records_kept.specs.Limits.{IsWithin}
 use Rattle.lab_records_keeper.specs.Worlds.{Meaning, Passes, SameMeaning, World}
 use Rattle.lab_records_laws.specs.Runs.{IsReleasing}
-use Rattle.lab_records_copy_out.specs.Resting.{IsRead}
+use Rattle.lab_records_copy_out.specs.Resting.{IsOnlyRead}
 use Rattle.lab_store_tables.specs.Schema.{lab_schema}
 use Rattle.lab_desk_foundings.specs.declared.faults.FoundFault.{FoundFault}
 use Rattle.lab_desk_foundings.specs.Faults.{found_fault_entry, is_taken}
 use Rattle.lab_desk_foundings.specs.Foundings.{founding_in, refused_line}
 use Rattle.lab_desk_events.specs.Alone.{Founding}
 use Rattle.lab_desk_events.specs.Keeping.{GivenWithin, OfAll}
-use Rattle.lab_desk_events.specs.Runs.{Handled, IsAnswer, IsTold}
+use Rattle.lab_desk_events.specs.Runs.{Handled, IsAnswer, IsAccountOf}
 use Rattle.lab_desk_events.specs.Starts.{AreMadeAt, Start, answers_at, machine_after, machine_at}
 use Rattle.lab_program_opening.specs.Files.{AreHeldIn, Finds, IsNewFrom, IsOursFrom, LeavesShown}
 use Rattle.lab_program_serve.specs.Runs.{AreBrought}
@@ -88,7 +88,7 @@ module _ {D : Type 0} {g : DiskOf D} where
       IsRefusedAt (file_keeper over_files) opened last code tick (founding_in bytes) fault
   Does (Served reply visits) opened last = AreVisits (file_keeper over_files)
       (GoesOn (file_keeper over_files)) reply opened visits last
-  Does Copied opened last = IsRead (file_world over_files) (file_rests over_files) opened last
+  Does Copied opened last = IsOnlyRead (file_world over_files) (file_rests over_files) opened last
   Does Moved opened last = (last ≡ opened) × LeavesShown (file_state opened)
 
   -- where every laboratory was within its limits, the file is honest, and its tables were well kept
@@ -172,7 +172,7 @@ module _ {D : Type 0} {g : DiskOf D} where
   pub record IsStartOf (work : Work D g) (one : Start) : Type 0 where
     pub found : one.found ≡ (world_opened work).meaning
     pub events : AreEventsOf work.task one.handled
-    pub told : IsTold one.events one.taken one.handled
+    pub told : IsAccountOf one.events one.taken one.handled
     pub each : All (IsAnswer (world_opened work).may_refuse) one.handled
 
   -- the starts of these tasks, in order

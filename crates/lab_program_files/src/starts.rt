@@ -9,7 +9,7 @@ ghost use Rattle.sqlite.specs.Held.{Held, IsConnected, state};
 ghost use Rattle.sqlite.specs.State.{HasCleanDisk};
 ghost use Rattle.lab_forms_texts.specs.declared.tick.Tick.{Tick};
 ghost use Rattle.lab_records_keeper.specs.Worlds.{Given, Meaning, Passes, SameMeaning};
-ghost use Rattle.lab_records_copy_out.specs.Resting.{IsRead};
+ghost use Rattle.lab_records_copy_out.specs.Resting.{IsOnlyRead};
 ghost use Rattle.lab_store.specs.StoreWorlds.{world_of};
 ghost use Rattle.lab_desk_events.specs.Keeping.{AreWithin, GivenWithin};
 ghost use Rattle.lab_desk_events.specs.Runs.{Handled};
@@ -95,7 +95,7 @@ pub fn what_is_founded_is_a_start<S: Alter>()
 /// says of the task `copy` what is asked here, and `found` that the connection of a start is live.
 pub fn what_is_copied_is_a_start<S: Alter>()
     ensures { (opened last : Held S) →
-        IsRead (file_world S.Store) (file_rests S.Store) opened last →
+        IsOnlyRead (file_world S.Store) (file_rests S.Store) opened last →
         (file_world S.Store opened).is_live →
         Given (file_world S.Store opened) (file_world S.Store last)
         (IsRunOver S.Store opened last []) }

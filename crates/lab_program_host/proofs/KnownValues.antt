@@ -6,8 +6,8 @@ use Rattle.std.specs.Str.{bytes_eq}
 use Rattle.lab_desk_foundings.specs.declared.run_faults.ServeFault.TheVariants.{Read as Unread, Interim, Reply}
 use Rattle.lab_program_host.specs.declared.faults.ServerFault.TheVariants.{Read, Write, Memory}
 use Rattle.lab_program_host.specs.declared.faults.ConnectionFault.TheVariants.{Serving, Memory as NoBuffer}
-use Rattle.lab_program_host.specs.Faults.{server_fault_word, server_fault_number, fault_of_connection, told_line, Tells}
-use Rattle.lab_program_host.specs.Sources.{Gives}
+use Rattle.lab_program_host.specs.Faults.{server_fault_word, server_fault_number, fault_of_connection, told_line, PrintsFault}
+use Rattle.lab_program_host.specs.Sources.{GivesInOrder}
 
 -- ---- faults
 
@@ -27,9 +27,9 @@ pub known_connections : (fault_of_connection (Serving Unread) ≡ Read) × (faul
 known_connections = (refl, refl, refl, refl)
 
 -- the status 0 tells nothing, the status 1 a fault; a fault with the status 0 there isn't
-pub known_status : Tells server_fault_word (Ok tt) (Ok 0) (Some []) (Some [])
-    × Tells server_fault_word (Err Write) (Ok 1) (Some []) (Some (codes "labdesk: write_fault\n"))
-    × (Tells server_fault_word (Err Write) (Ok 0) (Some []) (Some (codes "labdesk: write_fault\n")) → ⊥)
+pub known_status : PrintsFault server_fault_word (Ok tt) (Ok 0) (Some []) (Some [])
+    × PrintsFault server_fault_word (Err Write) (Ok 1) (Some []) (Some (codes "labdesk: write_fault\n"))
+    × (PrintsFault server_fault_word (Err Write) (Ok 0) (Some []) (Some (codes "labdesk: write_fault\n")) → ⊥)
 known_status = (
   (refl, refl),
   (refl, refl),
@@ -39,8 +39,8 @@ known_status = (
 -- ---- sources
 
 -- what is given comes first and in order, and the rest is still to come
-pub known_given : Gives {X = ℕ} (Some (3 ∷ 4 ∷ 5 ∷ [])) (Some (5 ∷ [])) (3 ∷ 4 ∷ [])
-    × (Gives {X = ℕ} (Some (3 ∷ 4 ∷ [])) (Some []) (4 ∷ 3 ∷ []) → ⊥) × Gives {X = ℕ} None (Some (9 ∷ [])) (3 ∷ [])
+pub known_given : GivesInOrder {X = ℕ} (Some (3 ∷ 4 ∷ 5 ∷ [])) (Some (5 ∷ [])) (3 ∷ 4 ∷ [])
+    × (GivesInOrder {X = ℕ} (Some (3 ∷ 4 ∷ [])) (Some []) (4 ∷ 3 ∷ []) → ⊥) × GivesInOrder {X = ℕ} None (Some (9 ∷ [])) (3 ∷ [])
 known_given = (
   (5 ∷ [], refl, refl),
   λ given. true≢false (ap (λ (all : List ℕ). bytes_eq (take 1 all) (3 ∷ [])) given.1),

@@ -6,7 +6,7 @@ use Rattle.std.proofs.KnownBytes.{Appends-trans}
 use Rattle.std.proofs.Math.Seq.{take-append-add}
 use Rattle.std.proofs.lemmas.List.{length-append}
 use Rattle.lab_forms_streams.specs.declared.sending.WriteFault.{WriteFault as Untold}
-use Rattle.lab_program_host.specs.Faults.{IsTold}
+use Rattle.lab_program_host.specs.Faults.{IsLinePrinted}
 
 -- how many bytes of three texts went out, where it was the last that was cut
 cut_last : (first word last : List ℕ) (part : ℕ) →
@@ -21,7 +21,7 @@ pub told_parts : (first word last : List ℕ) (at : ℕ) (a b c d : Option (List
     (told : Result (Unit {0}) Untold) → at ≡ length first + length word →
     Appends a b first → Appends b c word → OnOk told (Appends c d last) →
     IfErr told (λ untold. (part : ℕ) × (untold.sent ≡ at + part) × (part < length last)
-    × Appends c d (take part last)) → IsTold (first ++ (word ++ last)) told a d
+    × Appends c d (take part last)) → IsLinePrinted (first ++ (word ++ last)) told a d
 told_parts first word last at a b c d (Ok _) place one two whole cut =
     Appends-trans a b d first (word ++ last) one (Appends-trans b c d word last two whole)
 told_parts first word last at a b c d (Err untold) place one two whole cut =

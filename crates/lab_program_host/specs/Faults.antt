@@ -53,15 +53,15 @@ abbrev pub told_line : List ℕ → List ℕ
 told_line word = codes "labdesk: " ++ word ++ codes "\n"
 
 -- a line was told whole; where standard error failed, its first bytes were, and not all
-abbrev pub IsTold : {X : Type 0} → List ℕ → Result X Untold → Option (List ℕ) → Option (List ℕ) →
+abbrev pub IsLinePrinted : {X : Type 0} → List ℕ → Result X Untold → Option (List ℕ) → Option (List ℕ) →
     Type 0
-IsTold line (Ok _) before after = Appends before after line
-IsTold line (Err untold) before after =
+IsLinePrinted line (Ok _) before after = Appends before after line
+IsLinePrinted line (Err untold) before after =
     Appends before after (take untold.sent line) × (untold.sent < length line)
 
 -- the status, and what standard error was told: nothing where all was done, and else the fault
-abbrev pub Tells : {F : Type 0} → (F → List ℕ) → Result (Unit {0}) F → Result ℕ Untold →
+abbrev pub PrintsFault : {F : Type 0} → (F → List ℕ) → Result (Unit {0}) F → Result ℕ Untold →
     Option (List ℕ) → Option (List ℕ) → Type 0
-Tells word (Ok _) status before after = (status ≡ Ok 0) × Keeps before after
-Tells word (Err fault) status before after =
-    IfOk status (λ number. number ≡ 1) × IsTold (told_line (word fault)) status before after
+PrintsFault word (Ok _) status before after = (status ≡ Ok 0) × Keeps before after
+PrintsFault word (Err fault) status before after =
+    IfOk status (λ number. number ≡ 1) × IsLinePrinted (told_line (word fault)) status before after

@@ -5,9 +5,9 @@ use Rattle.std.specs.Prelude.{◌≡◌, ℕ, List, [], ◌∷◌, ◌++◌, Opt
 use Rattle.lab_forms_texts.specs.declared.tick.Tick.{Tick}
 
 -- these were given, in order, and the rest is still to come
-abbrev pub Gives : {X : Type 0} → Option (List X) → Option (List X) → List X → Type 0
-Gives None new given = Unit {0}
-Gives {X} (Some all) new given = (rest : List X) × (all ≡ given ++ rest) × (new ≡ Some rest)
+abbrev pub GivesInOrder : {X : Type 0} → Option (List X) → Option (List X) → List X → Type 0
+GivesInOrder None new given = Unit {0}
+GivesInOrder {X} (Some all) new given = (rest : List X) × (all ≡ given ++ rest) × (new ≡ Some rest)
 
 -- ---- the tick
 
@@ -25,5 +25,5 @@ drawing_of moments later words further =
 
 -- the tick is of the moment and the words that they gave
 abbrev pub IsDrawn : Drawing → Tick → Type 0
-IsDrawn drawing tick = Gives drawing.moments drawing.later (tick.moment ∷ [])
-    × Gives drawing.words drawing.further (tick.words ∷ [])
+IsDrawn drawing tick = GivesInOrder drawing.moments drawing.later (tick.moment ∷ [])
+    × GivesInOrder drawing.words drawing.further (tick.words ∷ [])

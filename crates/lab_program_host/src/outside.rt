@@ -2,7 +2,7 @@
 //! words.
 
 ghost use Rattle.std.specs.Prelude.{ℕ, List, [], ◌∷◌, Option, None, IfOk};
-ghost use Rattle.lab_program_host.specs.Sources.{Gives};
+ghost use Rattle.lab_program_host.specs.Sources.{GivesInOrder};
 
 use lab_forms_texts::{Moment, Tick};
 
@@ -18,7 +18,7 @@ pub trait Clock {
     /// Returns the present moment.
     fn moment(&mut self) -> Result<Moment, DrawFault>
         ensures given { IfOk result (λ moment.
-            Gives (coming self.old) (coming self.new) (moment ∷ [])) };
+            GivesInOrder (coming self.old) (coming self.new) (moment ∷ [])) };
 }
 
 /// A source of random words.
@@ -29,7 +29,7 @@ pub trait Chance {
     /// Returns eight words that nobody can predict.
     fn words(&mut self) -> Result<[u64; 8], DrawFault>
         ensures given { IfOk result (λ words.
-            Gives (coming self.old) (coming self.new) (words ∷ [])) };
+            GivesInOrder (coming self.old) (coming self.new) (words ∷ [])) };
 }
 
 /// Returns the tick of a connection: a moment of the clock, and eight random words.
@@ -38,9 +38,9 @@ pub trait Chance {
 /// `DrawFault` if the clock or the source of random words failed.
 pub fn draw<C: Clock, X: Chance>(clock: &mut C, chance: &mut X) -> Result<Tick, DrawFault>
     ensures moment { IfOk result (λ tick.
-        Gives (C.coming clock.old) (C.coming clock.new) (tick.moment ∷ [])) }
+        GivesInOrder (C.coming clock.old) (C.coming clock.new) (tick.moment ∷ [])) }
     ensures words { IfOk result (λ tick.
-        Gives (X.coming chance.old) (X.coming chance.new) (tick.words ∷ [])) }
+        GivesInOrder (X.coming chance.old) (X.coming chance.new) (tick.words ∷ [])) }
 {
     let moment = clock.moment()?;
     let words = chance.words()?;

@@ -2,7 +2,7 @@
 
 ghost use Rattle.std.specs.Prelude.{◌≡◌, ℕ, ◌+◌, ◌^◌, ◌<◌, length, take, OnOk, IfErr};
 ghost use Rattle.std.specs.Io.KnownBytes.{Appends};
-ghost use Rattle.lab_program_host.specs.Faults.{IsTold, told_line};
+ghost use Rattle.lab_program_host.specs.Faults.{IsLinePrinted, told_line};
 
 use lab_forms_streams::{WriteFault, write_whole};
 use std::io::Write;
@@ -32,7 +32,7 @@ fn tell_after<E: Write>(errors: &mut E, sent: usize, text: &str) -> Result<(), W
 /// # Errors
 /// Standard error failed before the whole line was printed.
 pub fn tell<E: Write>(errors: &mut E, word: &str) -> Result<(), WriteFault>
-    ensures { IsTold (told_line word.now) result (E.contents errors.old) (E.contents errors.new) }
+    ensures { IsLinePrinted (told_line word.now) result (E.contents errors.old) (E.contents errors.new) }
 {
     tell_after(errors, 0, BEFORE)?;
     tell_after(errors, BEFORE.len(), word)?;

@@ -6,7 +6,7 @@ use Rattle.lab_forms_streams.specs.declared.sending.WriteFault.{WriteFault as Un
 use Rattle.lab_forms_streams.specs.Sending.{read_fault_word}
 use Rattle.lab_store_files.specs.declared.faults.FileFault.TheVariants.{Memory}
 use Rattle.lab_store_files.specs.Faults.{file_fault_entry, file_fault_value}
-use Rattle.lab_program_host.specs.Faults.{Tells}
+use Rattle.lab_program_host.specs.Faults.{PrintsFault}
 use Rattle.lab_program_opening.specs.declared.faults.OpenFault.{OpenFault}
 use Rattle.lab_program_opening.specs.declared.faults.OpenFault.TheVariants.{File, Drawing}
 
@@ -30,7 +30,7 @@ unopened_fault = File Memory
 -- all
 abbrev pub TellsWord : List ℕ → Result ℕ Untold → Option (List ℕ) → Option (List ℕ) → Type 0
 TellsWord word status before after =
-    Tells (λ (fault : List ℕ). fault) (Err word) status before after
+    PrintsFault (λ (fault : List ℕ). fault) (Err word) status before after
 
 -- so was a word and, where there is one, a space and the value; or, where there was no memory to
 -- put a value into the line, that memory ran out
@@ -50,5 +50,5 @@ Declines fault status before after =
 -- done, and else the word of the fault
 abbrev pub TellsTask : {F : Type 0} → (F → List ℕ) → Result (Result (Unit {0}) F) OpenFault →
     Result ℕ Untold → Option (List ℕ) → Option (List ℕ) → Type 0
-TellsTask word (Ok ending) status before after = Tells word ending status before after
+TellsTask word (Ok ending) status before after = PrintsFault word ending status before after
 TellsTask word (Err fault) status before after = Declines fault status before after

@@ -6,9 +6,9 @@ use Rattle.sqlite_wal.specs.Recovery.{Image}
 use Rattle.sqlite.specs.Files.{AreFoundIn, HoldsDatabase}
 use Rattle.sqlite.specs.Held.{Held, state}
 use Rattle.sqlite.specs.State.{HasCleanDisk, IsLive, IsUnchanged, Opens, State}
-use Rattle.lab_store_files.specs.NewFiles.{Ends, IsBlank, IsNewFile}
+use Rattle.lab_store_files.specs.NewFiles.{EndsNewFile, IsBlank, IsNewFile}
 use Rattle.lab_store_files.specs.Schemas.{is_taken}
-use Rattle.lab_store_files.specs.Verdicts.{Answers}
+use Rattle.lab_store_files.specs.Verdicts.{AnswersVerdict}
 
 -- ---- what a file held
 
@@ -37,7 +37,7 @@ module _ {S : Type 0} (disk : Ghosts S) where
   IsOursFrom old conn = LeavesShown (state disk conn)
       × (HasCleanDisk (state disk conn) → HasCleanDisk (state disk old)
       × IsUnchanged (state disk old) (state disk conn)
-      × Answers (state disk old) (state disk conn) (Ok tt))
+      × AnswersVerdict (state disk old) (state disk conn) (Ok tt))
 
   -- the tables were made in it by one commit: none of their names was there, and where nothing was,
   -- it is a new file
@@ -46,7 +46,7 @@ module _ {S : Type 0} (disk : Ghosts S) where
       × (is_taken (state disk old).now.schema ≡ false)
       × (HasCleanDisk (state disk conn) → IsBlank (state disk old).now →
       IsTrue (state disk conn).is_open × IsNewFile (state disk conn).now)
-      × Ends (state disk old) (state disk conn)
+      × EndsNewFile (state disk old) (state disk conn)
 
   module _ (IsHeld : Trees → Type 0) where
     -- a file that held this is found

@@ -20,7 +20,7 @@ use Rattle.lab_program_replay.specs.declared.fault.ReplayFault.TheVariants.{BadE
 use Rattle.lab_program_replay.specs.Event.{next_event}
 use Rattle.lab_program_replay.specs.Fault.{IsInputFault, fault_of_run, fault_line}
 use Rattle.lab_program_replay.specs.Reading.{TakesNext}
-use Rattle.lab_program_replay.specs.Replay.{BeginsWith, Stops, IsTold, IsWritten, Replays, AreEvents}
+use Rattle.lab_program_replay.specs.Replay.{BeginsWith, Stops, IsFaultPrinted, IsWritten, Replays, AreEvents}
 use Rattle.lab_desk_events.proofs.Running.{run_then, no_run}
 
 -- the events so far were run, and the rest of the input is left
@@ -303,6 +303,6 @@ module _ (old : World) (before : Option (List ℕ)) where
 pub told : (fault : ReplayFault) (old new : Option (List ℕ)) (r : Result (Unit {0}) Untold) →
     OnOk r (Appends old new (fault_line fault))
     → IfErr r (λ untold. Appends old new (take untold.sent (fault_line fault))) →
-    IfErr r (λ untold. untold.sent < length (fault_line fault)) → IsTold fault r old new
+    IfErr r (λ untold. untold.sent < length (fault_line fault)) → IsFaultPrinted fault r old new
 told fault old new (Ok _) whole cut short = whole
 told fault old new (Err untold) whole cut short = (cut, short)

@@ -7,7 +7,7 @@ use Rattle.lab_program_replay.specs.declared.event.Heading.{Heading as HeadingRe
 use Rattle.lab_program_replay.specs.declared.fault.ReplayFault.{ReplayFault}
 use Rattle.lab_program_replay.specs.declared.fault.ReplayFault.TheVariants.{BadEvent, ReadFault, WriteFault, Storage, Memory}
 use Rattle.lab_program_replay.specs.Event.{cut_at, most_line, line_at, short_line, ◌>>=◌, heading_of, next_event, next_of, with_bytes, Event, End, Bad, Taken}
-use Rattle.lab_program_replay.specs.Reading.{IsRefused, TakesByte, TakesLine, TakesBytes, TakesNext, heading_said, event_said}
+use Rattle.lab_program_replay.specs.Reading.{IsReadingRefused, TakesByte, TakesLine, TakesBytes, TakesNext, heading_said, event_said}
 use Rattle.lab_program_replay.proofs.ReadLemmas.{HasRead, after, cut_feed, cut_end}
 
 short_test : (b : Bool) (parts : List ℕ × List ℕ) → b ≡ true → cond b (Some parts) None ≡ Some parts
@@ -118,7 +118,7 @@ module _ {A : Type 0} (line : Vec ℕ A) where
   -- the line's words were no heading
   pub next_no_heading : (old left after : Option (List ℕ)) (fault : ReplayFault) →
       IfSome old (λ input. TakesLine input left (Ok (Some line)))
-      → IsRefused fault (heading_of line.items) →
+      → IsReadingRefused fault (heading_of line.items) →
       IfSome old (λ input. TakesNext (next_event input) after (Err fault))
   next_no_heading None left after fault taken refused = tt
   next_no_heading (Some input) left after BadEvent taken refused =

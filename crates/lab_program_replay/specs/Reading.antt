@@ -10,15 +10,15 @@ use Rattle.lab_desk_events.specs.declared.events.Event.TheVariants.{Found, Call}
 use Rattle.lab_program_replay.specs.Event.{line_at, Heading, Event, Next, End, Bad, Taken}
 
 -- a text was refused with this fault
-abbrev pub IsRefused : {Y : Type 0} → ReplayFault → Option Y → Type 0
-IsRefused BadEvent said = said ≡ None
-IsRefused Memory said = Unit {0}
-IsRefused _ said = ⊥
+abbrev pub IsReadingRefused : {Y : Type 0} → ReplayFault → Option Y → Type 0
+IsReadingRefused BadEvent said = said ≡ None
+IsReadingRefused Memory said = Unit {0}
+IsReadingRefused _ said = ⊥
 
 -- what a text says was read
-abbrev pub Gives : {X Y : Type 0} → (X → Y) → Result X ReplayFault → Option Y → Type 0
-Gives view (Ok x) said = said ≡ Some (view x)
-Gives view (Err fault) said = IsRefused fault said
+abbrev pub GivesReading : {X Y : Type 0} → (X → Y) → Result X ReplayFault → Option Y → Type 0
+GivesReading view (Ok x) said = said ≡ Some (view x)
+GivesReading view (Err fault) said = IsReadingRefused fault said
 
 -- a heading that was read, in plain values
 abbrev pub heading_said : HeadingRead → Heading

@@ -62,16 +62,16 @@ pub record Replays (old new : World) (input before after : Option (List ℕ))
   pub wrote : Appends before after written
 
 -- a fault's line was told whole; where standard error failed, its first bytes were, and not all
-abbrev pub IsTold : {X : Type 0} → ReplayFault → Result X Untold → Option (List ℕ) → Option
+abbrev pub IsFaultPrinted : {X : Type 0} → ReplayFault → Result X Untold → Option (List ℕ) → Option
     (List ℕ) → Type 0
-IsTold fault (Ok _) before after = Appends before after (fault_line fault)
-IsTold fault (Err untold) before after =
+IsFaultPrinted fault (Ok _) before after = Appends before after (fault_line fault)
+IsFaultPrinted fault (Err untold) before after =
     Appends before after (take untold.sent (fault_line fault)) ×
     (untold.sent < length (fault_line fault))
 
 -- the status, and what standard error was told: nothing after a whole replay, and else the fault
-abbrev pub Tells : Result (Unit {0}) ReplayFault → Result ℕ Untold → Option (List ℕ) → Option
+abbrev pub PrintsReplayFault : Result (Unit {0}) ReplayFault → Result ℕ Untold → Option (List ℕ) → Option
     (List ℕ) → Type 0
-Tells (Ok _) status before after = (status ≡ Ok 0) × Keeps before after
-Tells (Err fault) status before after = IfOk status (λ number. number ≡ 1)
-    × IsTold fault status before after
+PrintsReplayFault (Ok _) status before after = (status ≡ Ok 0) × Keeps before after
+PrintsReplayFault (Err fault) status before after = IfOk status (λ number. number ≡ 1)
+    × IsFaultPrinted fault status before after

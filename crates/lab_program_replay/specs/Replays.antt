@@ -12,7 +12,7 @@ use Rattle.lab_desk_events.specs.Runs.{Handled, AreAlone, IsAnswer, KeepsAlong, 
 use Rattle.lab_program_replay.specs.declared.fault.ReplayFault.{ReplayFault}
 use Rattle.lab_program_replay.specs.declared.fault.ReplayFault.TheVariants.{BadEvent, ReadFault, WriteFault, Storage, Memory}
 use Rattle.lab_program_replay.specs.Event.{next_event}
-use Rattle.lab_program_replay.specs.Replay.{AreEvents, BeginsWith, IsWritten, Stops, Tells}
+use Rattle.lab_program_replay.specs.Replay.{AreEvents, BeginsWith, IsWritten, Stops, PrintsReplayFault}
 
 -- there is no laboratory
 abbrev pub nobody : Meaning
@@ -52,4 +52,4 @@ pub record IsReplay (input before after told_before told_after : Option (List â„
     (status : Result â„• Untold) : Type 0 where
   pub ending : Result (Unit {0}) ReplayFault
   pub replays : ReplaysFromNothing input before after ending
-  pub tells : Tells ending status told_before told_after
+  pub tells : PrintsReplayFault ending status told_before told_after

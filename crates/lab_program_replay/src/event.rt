@@ -5,7 +5,7 @@ ghost use Rattle.std.specs.Io.KnownBytes.{Consumes, IsAtEnd};
 ghost use Rattle.lab_forms_texts.specs.Moment.{is_moment};
 ghost use Rattle.lab_program_replay.specs.Event.{cut_at, number_where, lab_code, numbered, founding_of, heading_of, next_event};
 ghost use Rattle.lab_program_replay.specs.Fault.{IsInputFault};
-ghost use Rattle.lab_program_replay.specs.Reading.{Gives, TakesAtMost, TakesByte, TakesBytes, TakesLine, TakesNext, heading_said};
+ghost use Rattle.lab_program_replay.specs.Reading.{GivesReading, TakesAtMost, TakesByte, TakesBytes, TakesLine, TakesNext, heading_said};
 
 use crate::fault::ReplayFault;
 use lab_desk::Event;
@@ -121,7 +121,7 @@ fn words_from(first: u64) -> [u64; 8]
 
 // A laboratory's code.
 fn lab(alloc: Global, text: &[u8]) -> Result<LabCode, ReplayFault>
-    ensures { Gives (λ code. code) result (lab_code text.now) }
+    ensures { GivesReading (λ code. code) result (lab_code text.now) }
 {
     let Ok(text) = str::from_utf8(text) else {
         return Err(ReplayFault::BadEvent);
@@ -150,7 +150,7 @@ fn heading_numbered(founded: Option<LabCode>, text: &[u8]) -> Option<Heading>
 // The line of a founding, from the laboratory on.
 #[tactic(auto, unfolding(crate::specs::Event::founding_of))]
 fn heading_of_founding(alloc: Global, text: &[u8]) -> Result<Heading, ReplayFault>
-    ensures { Gives heading_said result (founding_of text.now) }
+    ensures { GivesReading heading_said result (founding_of text.now) }
 {
     let (code, text) = parts_cut(text, b' ').ok_or(ReplayFault::BadEvent)?;
     let code = lab(alloc, code)?;
@@ -160,7 +160,7 @@ fn heading_of_founding(alloc: Global, text: &[u8]) -> Result<Heading, ReplayFaul
 // What a line says, without its line feed.
 #[tactic(auto, unfolding(crate::specs::Event::heading_of))]
 fn heading_of_line(alloc: Global, line: &[u8]) -> Result<Heading, ReplayFault>
-    ensures { Gives heading_said result (heading_of line.now) }
+    ensures { GivesReading heading_said result (heading_of line.now) }
 {
     let (kind, text) = parts_cut(line, b' ').ok_or(ReplayFault::BadEvent)?;
     if kind == b"found".as_slice() {

@@ -1,6 +1,6 @@
 //! The events of an input, run one after the other on a desk.
 ghost use Rattle.lab_desk_events.specs.Keeping.{GivenWithin};
-ghost use Rattle.lab_program_replay.specs.Replay.{IsTold, Replays};
+ghost use Rattle.lab_program_replay.specs.Replay.{IsFaultPrinted, Replays};
 
 use crate::event::next_event;
 use crate::fault::ReplayFault;
@@ -39,7 +39,7 @@ pub fn run_events<S: Keeper + Drop, B: BufRead, W: Write>(
 /// # Errors
 /// Standard error failed after the first bytes of the line.
 pub fn tell<E: Write>(errors: &mut E, fault: ReplayFault) -> Result<(), WriteFault>
-    ensures { IsTold fault result (E.contents errors.old) (E.contents errors.new) }
+    ensures { IsFaultPrinted fault result (E.contents errors.old) (E.contents errors.new) }
 {
     write_whole(errors, fault.line().as_bytes())
 }

@@ -14,10 +14,10 @@ use Rattle.lab_desk_events.specs.Alone.{Happening, Request}
 use Rattle.lab_desk_events.specs.Keeping.{AreReleasing, AreWithin, GivenWithin}
 use Rattle.lab_desk_events.specs.Leaving.{as_told}
 use Rattle.lab_desk_events.specs.Requests.{IsRefusedReply}
-use Rattle.lab_desk_events.specs.Runs.{Handled, IsRun, IsTold}
+use Rattle.lab_desk_events.specs.Runs.{Handled, IsRun, IsAccountOf}
 use Rattle.lab_desk_events.proofs.Leaving.{LeavesAwake, awake_between, awake_none, awake_on, leaves_awake, request_leaves, request_lives}
 use Rattle.lab_desk_events.proofs.Running.{no_run, one_request, run_then, still_run}
-use Rattle.lab_desk.specs.Answering.{Answers}
+use Rattle.lab_desk.specs.Answering.{AnswersRequest}
 use Rattle.lab_desk.specs.Serving.{Exchange, HandlesRequest}
 use Rattle.lab_program_host.specs.declared.faults.ConnectionFault.TheVariants.{Serving, Memory}
 use Rattle.lab_program_serve.specs.Runs.{AreBrought, Brings, IsServedRun}
@@ -53,8 +53,8 @@ taken_in = map (λ (one : Handled). one.taken)
 
 -- one more is told
 told_on : (first handled : List Handled) (one : Handled) →
-    IsTold (events_in handled) (taken_in handled) first →
-    IsTold (events_in (handled ++ one ∷ [])) (taken_in (handled ++ one ∷ []))
+    IsAccountOf (events_in handled) (taken_in handled) first →
+    IsAccountOf (events_in (handled ++ one ∷ [])) (taken_in (handled ++ one ∷ []))
     (first ++ as_told one.event one.taken ∷ [])
 told_on first handled one told = record {
   events_are =
@@ -99,7 +99,7 @@ module _ {S : Type 0} (keeper : Ghosts S) where
 
   -- it was asked whether it answers, and did
   asked_so_far : (old mid start : S) (handled : List Handled) → SoFar old mid handled →
-      Answers keeper mid start (Ok tt) → (keeper.world start).is_honest →
+      AnswersRequest keeper mid start (Ok tt) → (keeper.world start).is_honest →
       SoFar old start handled
   asked_so_far old mid start handled so asked honest =
       let back = asked.passes.live honest in

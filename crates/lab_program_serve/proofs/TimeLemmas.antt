@@ -7,8 +7,8 @@ use Rattle.lab_records_keeper.specs.Worlds.{Passes, World}
 use Rattle.lab_desk.specs.Desk.{Served}
 use Rattle.lab_desk_events.specs.Keeping.{GivenWithin, Stays, StaysOn}
 use Rattle.lab_desk_events.proofs.Lasting.{stays_after, stays_first, still_stays}
-use Rattle.lab_program_host.specs.Sources.{Gives}
-use Rattle.lab_program_serve.specs.Times.{AreRefused, AreTimes, BeginWith, IsMended, IsMet, IsNext, IsRefused, IsServed, IsTime, ServesTimes, Time, visits_of}
+use Rattle.lab_program_host.specs.Sources.{GivesInOrder}
+use Rattle.lab_program_serve.specs.Times.{AreRefused, AreTimes, BeginWith, IsMended, IsMet, IsNext, IsHandledShut, IsServed, IsTime, ServesTimes, Time, visits_of}
 use Rattle.lab_program_serve.specs.Visits.{AreCounted, AreGiven, GoesOn, KeepsGiven, Sources, Visit}
 use Rattle.lab_program_serve.proofs.VisitWords.{reply_after}
 use Rattle.lab_program_serve.proofs.VisitLemmas.{first_of, given_more, given_none, reply_last, sources_of, visits_more}
@@ -57,7 +57,7 @@ times_more keeper opened [] time are is = (is, tt)
 times_more keeper opened (one ∷ others) time are is =
     (are.0, times_more keeper opened others time are.1 is)
 
-refused_more : (visits : List Visit) (visit : Visit) → AreRefused visits → IsRefused visit →
+refused_more : (visits : List Visit) (visit : Visit) → AreRefused visits → IsHandledShut visit →
     AreRefused (visits ++ visit ∷ [])
 refused_more [] visit are is = (is, tt)
 refused_more (one ∷ others) visit are is = (are.0, refused_more others visit are.1 is)
@@ -175,7 +175,7 @@ module _ {S : Type 0} (keeper : Ghosts S) (opened : S → Type 0) where
     refused = time.refused ++ visit ∷ [];
   }
 
-  time_shut : (time : Time S) → IsTime keeper opened time → (visit : Visit) → IsRefused visit →
+  time_shut : (time : Time S) → IsTime keeper opened time → (visit : Visit) → IsHandledShut visit →
       IsTime keeper opened (time_refused time visit)
   time_shut time is visit refused = record {
     opened_so = is.opened_so;
@@ -257,7 +257,7 @@ module _ {S : Type 0} (keeper : Ghosts S) (opened : S → Type 0) where
         }
 
     -- none could be
-    so_far_shut : (now : Option (Served S)) → SoFar first now visits → IsRefused visit →
+    so_far_shut : (now : Option (Served S)) → SoFar first now visits → IsHandledShut visit →
         SoFar first None (visits ++ visit ∷ [])
     so_far_shut now so refused =
         let time = time_refused so.time visit in
@@ -312,9 +312,9 @@ module _ {S : Type 0} (keeper : Ghosts S) (opened : S → Type 0) where
   pub counted_more : (first : S) (now next : Option (Served S)) (served : ℕ) (visit : Visit)
       (coming left last : Option (List (Option (List ℕ))))
       (moments later latest : Option (List ℕ)) (words further furthest : Option (List (List ℕ))) →
-      IsNext keeper opened now visit next → Gives left last (visit.exchange.known ∷ []) →
-      Gives later latest (visit.exchange.tick.moment ∷ []) →
-      Gives further furthest (visit.exchange.tick.words ∷ []) →
+      IsNext keeper opened now visit next → GivesInOrder left last (visit.exchange.known ∷ []) →
+      GivesInOrder later latest (visit.exchange.tick.moment ∷ []) →
+      GivesInOrder further furthest (visit.exchange.tick.words ∷ []) →
       Counted first now served (sources_of coming left moments later words further) →
       Counted first next (served + 1) (sources_of coming last moments latest words furthest)
   counted_more first now next served visit coming left last moments later latest words further
@@ -359,9 +359,9 @@ module _ {S : Type 0} (keeper : Ghosts S) (opened : S → Type 0) where
   pub counts_more : (old now next : Option (Served S)) (served : ℕ) (visit : Visit)
       (coming left last : Option (List (Option (List ℕ))))
       (moments later latest : Option (List ℕ)) (words further furthest : Option (List (List ℕ))) →
-      IsNext keeper opened now visit next → Gives left last (visit.exchange.known ∷ []) →
-      Gives later latest (visit.exchange.tick.moment ∷ []) →
-      Gives further furthest (visit.exchange.tick.words ∷ []) →
+      IsNext keeper opened now visit next → GivesInOrder left last (visit.exchange.known ∷ []) →
+      GivesInOrder later latest (visit.exchange.tick.moment ∷ []) →
+      GivesInOrder further furthest (visit.exchange.tick.words ∷ []) →
       CountsFrom old now served (sources_of coming left moments later words further) →
       CountsFrom old next (served + 1) (sources_of coming last moments latest words furthest)
   counts_more old now next served visit coming left last moments later latest words further

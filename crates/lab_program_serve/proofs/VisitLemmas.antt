@@ -4,22 +4,22 @@ use Rattle.std.proofs.lemmas.List.{map-append}
 use Rattle.lab_records_keeper.specs.declared.keeper.Keeper.{Ghosts}
 use Rattle.lab_desk_foundings.specs.declared.run_faults.ServeFault.TheVariants.{Read, Interim, Reply}
 use Rattle.lab_program_host.specs.declared.faults.ConnectionFault.TheVariants.{Serving, Memory}
-use Rattle.lab_program_host.specs.Sources.{Gives, drawing_of}
-use Rattle.lab_program_serve.specs.Visits.{AreFirst, AreGiven, AreVisits, Ending, IsFront, IsVisit, OnUnserved, Sources, Visit}
+use Rattle.lab_program_host.specs.Sources.{GivesInOrder, drawing_of}
+use Rattle.lab_program_serve.specs.Visits.{AreFirst, AreGiven, AreVisits, Ending, StandsFirst, IsVisit, OnUnserved, Sources, Visit}
 use Rattle.lab_program_serve.proofs.VisitWords.{reply_after}
 
 -- ---- what sources give
 
-pub gives_nothing : {X : Type 0} (coming : Option (List X)) → Gives coming coming []
+pub gives_nothing : {X : Type 0} (coming : Option (List X)) → GivesInOrder coming coming []
 gives_nothing None = tt
 gives_nothing (Some all) = (all, refl, refl)
 
 gives_more : {X : Type 0} (first next last : Option (List X)) (given : List X) (one : X) →
-    Gives first next given → Gives next last (one ∷ []) → Gives first last (given ++ one ∷ [])
+    GivesInOrder first next given → GivesInOrder next last (one ∷ []) → GivesInOrder first last (given ++ one ∷ [])
 gives_more None next last given one before here = tt
 gives_more (Some all) next last given one before here =
-    let there : Gives (Some before.0) last (one ∷ []) =
-    subst (λ left. Gives left last (one ∷ [])) before.2 here in (
+    let there : GivesInOrder (Some before.0) last (one ∷ []) =
+    subst (λ left. GivesInOrder left last (one ∷ [])) before.2 here in (
       there.0,
       before.1 ∙ ap (λ left. given ++ left) there.1
           ∙ sym (append_assoc given (one ∷ []) there.0),
@@ -28,10 +28,10 @@ gives_more (Some all) next last given one before here =
 
 -- what a visit has of a source
 gives_of : {X : Type 0} (part : Visit → X) (visits : List Visit) (visit : Visit)
-    (first next last : Option (List X)) → Gives first next (map part visits) →
-    Gives next last (part visit ∷ []) → Gives first last (map part (visits ++ visit ∷ []))
+    (first next last : Option (List X)) → GivesInOrder first next (map part visits) →
+    GivesInOrder next last (part visit ∷ []) → GivesInOrder first last (map part (visits ++ visit ∷ []))
 gives_of part visits visit first next last before here =
-    subst (Gives first last) (sym (map-append part visits (visit ∷ [])))
+    subst (GivesInOrder first last) (sym (map-append part visits (visit ∷ [])))
     (gives_more first next last (map part visits) (part visit) before here)
 
 -- ---- connections
@@ -57,9 +57,9 @@ pub given_more : (visits : List Visit) (visit : Visit)
     (coming left last : Option (List (Option (List ℕ))))
     (moments later latest : Option (List ℕ)) (words further furthest : Option (List (List ℕ))) →
     AreGiven visits (sources_of coming left moments later words further) →
-    Gives left last (visit.exchange.known ∷ []) →
-    Gives later latest (visit.exchange.tick.moment ∷ []) →
-    Gives further furthest (visit.exchange.tick.words ∷ []) →
+    GivesInOrder left last (visit.exchange.known ∷ []) →
+    GivesInOrder later latest (visit.exchange.tick.moment ∷ []) →
+    GivesInOrder further furthest (visit.exchange.tick.words ∷ []) →
     AreGiven (visits ++ visit ∷ []) (sources_of coming last moments latest words furthest)
 given_more visits visit coming left last moments later latest words further furthest given one two
     three = record {
@@ -101,8 +101,8 @@ unserved (Err (Serving (Reply sent))) follows fact = tt
 unserved (Err Memory) follows fact = follows fact
 
 -- the first of what was given
-front_of : {X : Type 0} (all left : Option (List X)) (given : List X) → Gives all left given →
-    IsFront given all
+front_of : {X : Type 0} (all left : Option (List X)) (given : List X) → GivesInOrder all left given →
+    StandsFirst given all
 front_of None left given it = tt
 front_of (Some all) left given it = (it.0, it.1)
 

@@ -3,7 +3,7 @@ use Rattle.std.specs.Prelude.{◌≡◌, ℕ, List, [], Option, Result, Ok, Err,
 use Rattle.std.specs.Io.KnownBytes.{Appends}
 use Rattle.lab_records_kept.specs.declared.labs.Lab.{Lab}
 use Rattle.lab_desk_foundings.specs.Foundings.{IsNewborn, founding_in}
-use Rattle.lab_program_host.specs.Faults.{Tells, rehearsal_fault_word}
+use Rattle.lab_program_host.specs.Faults.{PrintsFault, rehearsal_fault_word}
 use Rattle.lab_program_host.specs.declared.faults.RehearsalFault.{RehearsalFault}
 use Rattle.lab_program_host.specs.declared.faults.RehearsalFault.TheVariants.{Founding, Server}
 use Rattle.lab_program_host.specs.TaskEnds.{TaskEnd}
@@ -28,5 +28,5 @@ pub record IsRehearsal (body : Option (List ℕ)) (code : List ℕ) (end : TaskE
   pub printed : List ℕ
   pub prints : Prints ending printed
   pub wrote : Appends end.before end.after printed
-  pub told : Tells rehearsal_fault_word ending end.status end.told_before
+  pub told : PrintsFault rehearsal_fault_word ending end.status end.told_before
       end.told_after

@@ -4,7 +4,7 @@ use Rattle.std.specs.Prelude.{◌≡◌, ◌++◌, List, [], ◌∷◌, map}
 use Rattle.lab_records_keeper.specs.Worlds.{World}
 use Rattle.lab_desk_events.specs.Alone.{Request}
 use Rattle.lab_desk_events.specs.Leaving.{LeavesRun}
-use Rattle.lab_desk_events.specs.Requests.{Asks}
+use Rattle.lab_desk_events.specs.Requests.{AskedInBytes}
 use Rattle.lab_desk_events.specs.Runs.{Handled, IsRun}
 use Rattle.lab_desk.specs.Serving.{AreAsked, Exchange}
 use Rattle.lab_program_serve.specs.Visits.{Ending, OnServed, OnUnserved, Visit}
@@ -12,7 +12,7 @@ use Rattle.lab_program_serve.specs.Visits.{Ending, OnServed, OnUnserved, Visit}
 -- the request of a connection as it was handled: what its bytes ask, as far as they are known, and
 -- the reply
 pub record IsRequestOf (exchange : Exchange) (one : Handled) : Type 0 where
-  pub asks : Asks
+  pub asks : AskedInBytes
   pub is : one.event ≡ Request exchange.tick asks
   pub asked_are : AreAsked exchange.known asks
   pub replied : one.answer ≡ exchange.reply

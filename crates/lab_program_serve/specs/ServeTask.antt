@@ -2,7 +2,7 @@
 use Rattle.std.specs.Prelude.{ℕ, Option, Result, IfSome}
 use Rattle.lab_records_keeper.specs.declared.keeper.Keeper.{Ghosts}
 use Rattle.lab_desk.specs.Desk.{Served}
-use Rattle.lab_program_host.specs.Faults.{Tells, server_fault_word}
+use Rattle.lab_program_host.specs.Faults.{PrintsFault, server_fault_word}
 use Rattle.lab_program_host.specs.Sources.{Drawing}
 use Rattle.lab_program_host.specs.declared.faults.ServerFault.{ServerFault}
 use Rattle.lab_program_host.specs.TaskEnds.{TaskEnd}
@@ -18,4 +18,4 @@ pub record IsServing {S : Type 0} (keeper : Ghosts S) (opened : S → Type 0)
   pub announced : IsAnnounced ending end.before end.after
   pub served : IfSome first (λ desk. opened desk.keeper →
       ServesTimes keeper opened desk.keeper ending count (listened drawing))
-  pub told : Tells server_fault_word ending end.status end.told_before end.told_after
+  pub told : PrintsFault server_fault_word ending end.status end.told_before end.told_after

@@ -28,7 +28,7 @@ visits_of [] = []
 visits_of (time ∷ times) = (time.visits ++ time.refused) ++ visits_of times
 
 -- the request of a connection was handled as by a keeper that a fault has shut
-pub record IsRefused (visit : Visit) : Type 0 where
+pub record IsHandledShut (visit : Visit) : Type 0 where
   pub old : Shut
   pub new : Shut
   pub handled : OnServed visit.ending (HandlesRequest shut_keeper old new visit.exchange)
@@ -36,7 +36,7 @@ pub record IsRefused (visit : Visit) : Type 0 where
 
 abbrev pub AreRefused : List Visit → Type 0
 AreRefused [] = Unit {0}
-AreRefused (visit ∷ visits) = IsRefused visit × AreRefused visits
+AreRefused (visit ∷ visits) = IsHandledShut visit × AreRefused visits
 
 module _ {S : Type 0} (keeper : Ghosts S) where
   -- a connection was served over a desk, whatever was so before
@@ -80,7 +80,7 @@ module _ {S : Type 0} (keeper : Ghosts S) (opened : S → Type 0) where
   abbrev pub IsMet : Option (Served S) → Visit → Option (Served S) → Type 0
   IsMet (Some old) visit (Some new) =
       IsServed keeper old.keeper visit new.keeper × (new.reply ≡ visit.exchange.reply)
-  IsMet None visit None = IsRefused visit
+  IsMet None visit None = IsHandledShut visit
   IsMet old visit new = ⊥
 
   pub record IsNext (old : Option (Served S)) (visit : Visit) (new : Option (Served S)) :

@@ -6,11 +6,11 @@ use Rattle.std.specs.List.{starts_with}
 use Rattle.lab_records_keeper.specs.declared.keeper.Keeper.{Ghosts}
 use Rattle.lab_wire_heads.specs.Interims.{interim_text}
 use Rattle.lab_desk_events.specs.Keeping.{AreWithin}
-use Rattle.lab_desk.specs.Answering.{Answers}
-use Rattle.lab_desk.specs.Serving.{Exchange, HandlesRequest, OnHandled, OnUnhandled, Writes}
+use Rattle.lab_desk.specs.Answering.{AnswersRequest}
+use Rattle.lab_desk.specs.Serving.{Exchange, HandlesRequest, OnHandled, OnUnhandled, WritesReply}
 use Rattle.lab_program_host.specs.declared.faults.ConnectionFault.{ConnectionFault}
 use Rattle.lab_program_host.specs.declared.faults.ConnectionFault.TheVariants.{Serving, Memory}
-use Rattle.lab_program_host.specs.Sources.{Drawing, Gives}
+use Rattle.lab_program_host.specs.Sources.{Drawing, GivesInOrder}
 
 -- how serving a connection ended
 abbrev pub Ending : Type 0
@@ -30,11 +30,11 @@ OnUnserved (Err Memory) P = P
 
 -- what went out over the connection: the interim answer where one is due, then the reply, or what a
 -- failing writer took of them; without a buffer nothing
-abbrev pub Sends : List ℕ → List ℕ → Ending → Option (List ℕ) → Option (List ℕ) → Type 0
-Sends interim reply (Ok done) before after = Writes interim reply (Ok done) before after
-Sends interim reply (Err (Serving fault)) before after =
-    Writes interim reply (Err fault) before after
-Sends interim reply (Err Memory) before after = Keeps before after
+abbrev pub SendsReply : List ℕ → List ℕ → Ending → Option (List ℕ) → Option (List ℕ) → Type 0
+SendsReply interim reply (Ok done) before after = WritesReply interim reply (Ok done) before after
+SendsReply interim reply (Err (Serving fault)) before after =
+    WritesReply interim reply (Err fault) before after
+SendsReply interim reply (Err Memory) before after = Keeps before after
 
 -- a connection: what its client sends, where that is known, the tick that was drawn when it was
 -- accepted, and the reply; how serving it ended; and what had gone out over it before and after
@@ -47,7 +47,7 @@ pub record Visit : Type 0 where
 -- the reply went out over the connection, whole or cut
 abbrev pub IsSent : Visit → Type 0
 IsSent visit = IfSome visit.exchange.known (λ bytes.
-    Sends (interim_text bytes) visit.exchange.reply visit.ending visit.before visit.after)
+    SendsReply (interim_text bytes) visit.exchange.reply visit.ending visit.before visit.after)
 
 -- a reply that refuses a request for the store's sake, or for want of memory (RFC 9110, 15.6.4,
 -- '503 Service Unavailable')
@@ -69,7 +69,7 @@ module _ {S : Type 0} (keeper : Ghosts S) where
   -- asked whether it answers, and did
   abbrev pub GoesOn : List ℕ → S → S → Type 0
   GoesOn reply old new = ((is_unavailable reply ≡ false) × (new ≡ old))
-      ⊎ Answers keeper old new (Ok tt)
+      ⊎ AnswersRequest keeper old new (Ok tt)
 
   -- behind any reply the keeper is as it was
   abbrev pub IsStill : List ℕ → S → S → Type 0
@@ -97,23 +97,23 @@ listened drawing = record { coming = None; left = None; drawing = drawing }
 -- the visits are those of the connections, the moments and the words that the sources gave, in
 -- order
 pub record AreGiven (visits : List Visit) (sources : Sources) : Type 0 where
-  pub readers_are : Gives sources.coming sources.left
+  pub readers_are : GivesInOrder sources.coming sources.left
       (map (λ (visit : Visit). visit.exchange.known) visits)
-  pub moments_are : Gives sources.drawing.moments sources.drawing.later
+  pub moments_are : GivesInOrder sources.drawing.moments sources.drawing.later
       (map (λ (visit : Visit). visit.exchange.tick.moment) visits)
-  pub words_are : Gives sources.drawing.words sources.drawing.further
+  pub words_are : GivesInOrder sources.drawing.words sources.drawing.further
       (map (λ (visit : Visit). visit.exchange.tick.words) visits)
 
 -- these come first in a list, where it is known
-abbrev pub IsFront : {X : Type 0} → List X → Option (List X) → Type 0
-IsFront {X} front known = IfSome known (λ all. (rest : List X) × (all ≡ front ++ rest))
+abbrev pub StandsFirst : {X : Type 0} → List X → Option (List X) → Type 0
+StandsFirst {X} front known = IfSome known (λ all. (rest : List X) × (all ≡ front ++ rest))
 
 -- where a fault came, they are the first of them
 pub record AreFirst (visits : List Visit) (sources : Sources) : Type 0 where
-  pub readers_are : IsFront (map (λ (visit : Visit). visit.exchange.known) visits) sources.coming
-  pub moments_are : IsFront (map (λ (visit : Visit). visit.exchange.tick.moment) visits)
+  pub readers_are : StandsFirst (map (λ (visit : Visit). visit.exchange.known) visits) sources.coming
+  pub moments_are : StandsFirst (map (λ (visit : Visit). visit.exchange.tick.moment) visits)
       sources.drawing.moments
-  pub words_are : IsFront (map (λ (visit : Visit). visit.exchange.tick.words) visits)
+  pub words_are : StandsFirst (map (λ (visit : Visit). visit.exchange.tick.words) visits)
       sources.drawing.words
 
 -- what was given is kept, however serving ended

@@ -1,7 +1,7 @@
 //! Connections that come one after the other.
 
 ghost use Rattle.std.specs.Prelude.{◌≡◌, ℕ, List, [], ◌∷◌, Option, None, IfOk};
-ghost use Rattle.lab_program_host.specs.Sources.{Gives};
+ghost use Rattle.lab_program_host.specs.Sources.{GivesInOrder};
 
 use lab_program_host::ListenFault;
 use std::io::{Read, Write};
@@ -36,6 +36,6 @@ pub trait Connections {
 
     /// Takes the next connection, for which it waits.
     fn accept(&mut self) -> Result<Connection<Self::Reader, Self::Writer>, ListenFault>
-        ensures given { IfOk result (λ connection. Gives (coming self.old) (coming self.new)
+        ensures given { IfOk result (λ connection. GivesInOrder (coming self.old) (coming self.new)
             (Self.Reader.remaining connection.reader ∷ [])) };
 }

@@ -8,7 +8,7 @@ ghost use Rattle.lab_desk.specs.Serving.{HandlesRequest};
 ghost use Rattle.lab_program_serve.specs.Texts.{IsPrinted, listening_line};
 ghost use Rattle.lab_program_host.specs.Sources.{drawing_of};
 ghost use Rattle.lab_program_serve.specs.Times.{ServesTimes};
-ghost use Rattle.lab_program_serve.specs.Visits.{OnServed, OnUnserved, Sends};
+ghost use Rattle.lab_program_serve.specs.Visits.{OnServed, OnUnserved, SendsReply};
 
 use crate::connections::{Connection, Connections};
 use crate::live_desks::LiveDesk;
@@ -50,7 +50,7 @@ pub fn serve_connection<S: Keeper + Drop, R: Read + Drop, W: Write>(
     ensures handled { OnServed result (HandlesRequest S.Keeper desk.old.keeper desk.new.keeper
         (record { known = R.remaining reader; tick = tick.now; reply = desk.new.reply })) }
     ensures written { IfSome (R.remaining reader) (λ bytes.
-        Sends (interim_text bytes) desk.new.reply result
+        SendsReply (interim_text bytes) desk.new.reply result
         (W.contents writer.old) (W.contents writer.new)) }
     ensures untouched { OnUnserved result (desk.new ≡ desk.old) }
     ensures stays { GivenWithin (S.world desk.old.keeper) (S.world desk.new.keeper)

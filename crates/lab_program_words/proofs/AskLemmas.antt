@@ -3,14 +3,14 @@ use Rattle.std.proofs.Common.{◌≡◌, ◌∙◌, ◌≤◌, ℕ, List, IsTrue
 use Rattle.clap.specs.Words.{Row, subcommand_of}
 use Rattle.lab_forms_texts.specs.Ordinals.{is_ordinal}
 use Rattle.lab_program_app.specs.Apps.{labdesk_app, most_connections}
-use Rattle.lab_program_words.specs.Tasks.{Asked, Asks, Gives, IsGiven, IsGivenIn, IsTask, name_of, founds, serves, copies, migrates, checks, replays, rehearses, errand_of, errand_called, errand_named, founding, serving, copying, migrating, checking, replaying, rehearsing}
+use Rattle.lab_program_words.specs.Tasks.{Asked, AsksTask, GivesArguments, IsGiven, IsGivenIn, IsTask, name_of, founds, serves, copies, migrates, checks, replays, rehearses, errand_of, errand_called, errand_named, founding, serving, copying, migrating, checking, replaying, rehearsing}
 use Rattle.lab_program_words.specs.declared.tasks.Task.{Task}
 use Rattle.lab_program_words.specs.declared.tasks.Task.TheVariants.{Found, Serve, Copy, Migrate, Check, Replay, Rehearse}
 
 -- each by what it is given
 
 module _ (rows : List Row) where
-  is_founding : (task : Task) (file lab : List ℕ) → errand_of task ≡ founding → IsGiven rows task → Gives (founds file lab) rows
+  is_founding : (task : Task) (file lab : List ℕ) → errand_of task ≡ founding → IsGiven rows task → GivesArguments (founds file lab) rows
       → IsTask task (founds file lab)
   is_founding (Found f l) file lab errand has gives =
       let one : f.now ≡ file = has.0 file gives.0 in
@@ -24,7 +24,7 @@ module _ (rows : List Row) where
   is_founding (Rehearse l s) file lab errand has gives = absurd (cc)
 
   is_serving : (task : Task) (file : List ℕ) (port count : ℕ) → errand_of task ≡ serving → IsGiven rows task
-      → Gives (serves file port count) rows → IsTask task (serves file port count)
+      → GivesArguments (serves file port count) rows → IsTask task (serves file port count)
   is_serving (Found f l) file port count errand has gives = absurd (cc)
   is_serving (Serve f p k) file port count errand has gives =
       let one : f.now ≡ file = has.0 file gives.0 in
@@ -41,7 +41,7 @@ module _ (rows : List Row) where
   within number is = search (arith)
 
   is_copying : (task : Task) (file lab : List ℕ) (from to : ℕ) → errand_of task ≡ copying → IsGiven rows task
-      → Gives (copies file lab from to) rows → IsTask task (copies file lab from to)
+      → GivesArguments (copies file lab from to) rows → IsTask task (copies file lab from to)
   is_copying (Found f l) file lab from to errand has gives = absurd (cc)
   is_copying (Serve f p k) file lab from to errand has gives = absurd (cc)
   is_copying (Copy f l a b) file lab from to errand has gives =
@@ -55,7 +55,7 @@ module _ (rows : List Row) where
   is_copying Replay file lab from to errand has gives = absurd (cc)
   is_copying (Rehearse l s) file lab from to errand has gives = absurd (cc)
 
-  is_migrating : (task : Task) (old new : List ℕ) → errand_of task ≡ migrating → IsGiven rows task → Gives (migrates old new) rows
+  is_migrating : (task : Task) (old new : List ℕ) → errand_of task ≡ migrating → IsGiven rows task → GivesArguments (migrates old new) rows
       → IsTask task (migrates old new)
   is_migrating (Found f l) old new errand has gives = absurd (cc)
   is_migrating (Serve f p k) old new errand has gives = absurd (cc)
@@ -87,7 +87,7 @@ module _ (rows : List Row) where
   is_replaying (Rehearse l s) errand = absurd (cc)
 
   is_rehearsing : (task : Task) (lab : List ℕ) (moment : ℕ) → errand_of task ≡ rehearsing → IsGiven rows task
-      → Gives (rehearses lab moment) rows → IsTask task (rehearses lab moment)
+      → GivesArguments (rehearses lab moment) rows → IsTask task (rehearses lab moment)
   is_rehearsing (Found f l) lab moment errand has gives = absurd (cc)
   is_rehearsing (Serve f p k) lab moment errand has gives = absurd (cc)
   is_rehearsing (Copy f l a b) lab moment errand has gives = absurd (cc)
@@ -98,7 +98,7 @@ module _ (rows : List Row) where
       let one : l.now ≡ lab = has.0 lab gives.0 in
       (moment, has.1 moment gives.1 gives.2, gives.2, cc)
 
-  is_task : (task : Task) (asked : Asked) → errand_of task ≡ errand_called (name_of asked) → IsGiven rows task → Gives asked rows
+  is_task : (task : Task) (asked : Asked) → errand_of task ≡ errand_called (name_of asked) → IsGiven rows task → GivesArguments asked rows
       → IsTask task asked
   is_task task (founds file lab) errand has gives = is_founding task file lab errand has gives
   is_task task (serves file port count) errand has gives = is_serving task file port count errand has gives
@@ -109,6 +109,6 @@ module _ (rows : List Row) where
   is_task task (rehearses lab moment) errand has gives = is_rehearsing task lab moment errand has gives
 
 pub asked_is : (words : List (List ℕ)) (task : Task) (asked : Asked) → errand_of task ≡ errand_named (subcommand_of labdesk_app words)
-    → IsGivenIn (subcommand_of labdesk_app words) task → Asks asked words → IsTask task asked
+    → IsGivenIn (subcommand_of labdesk_app words) task → AsksTask asked words → IsTask task asked
 asked_is words task asked errand given asks = is_task asks.rows task asked
     (errand ∙ ap errand_named asks.entered) (subst (λ entered. IsGivenIn entered task) asks.entered given) asks.given

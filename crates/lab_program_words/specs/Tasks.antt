@@ -35,8 +35,8 @@ name_of (rehearses lab moment) = codes "rehearse"
 -- ---- what its arguments are
 
 -- the text is decimal digits alone, which write the number; zeros may lead
-abbrev pub Writes : ℕ → List ℕ → Type 0
-Writes number text = IsNumeral 10 text × (digits_value 10 text ≡ number)
+abbrev pub IsDecimalOf : ℕ → List ℕ → Type 0
+IsDecimalOf number text = IsNumeral 10 text × (digits_value 10 text ≡ number)
 
 -- the argument of this name was given the text
 abbrev pub HasText : List ℕ → List Row → List ℕ → Type 0
@@ -45,32 +45,32 @@ HasText name rows text = first_of name rows ≡ Some text
 -- the argument of this name was given the number
 abbrev pub HasNumber : List ℕ → List Row → ℕ → Type 0
 HasNumber name rows number =
-    (text : List ℕ) × (one_of name rows ≡ Some text) × Writes number text
+    (text : List ℕ) × (one_of name rows ≡ Some text) × IsDecimalOf number text
 
-abbrev pub Gives : Asked → List Row → Type 0
-Gives (founds file lab) rows =
+abbrev pub GivesArguments : Asked → List Row → Type 0
+GivesArguments (founds file lab) rows =
     HasText (codes "file") rows file × HasText (codes "lab") rows lab
-Gives (serves file port count) rows =
+GivesArguments (serves file port count) rows =
     HasText (codes "file") rows file × HasNumber (codes "port") rows port × (port ≤ last_port)
     × HasNumber (codes "count") rows count × (count ≤ most_connections)
-Gives (copies file lab from to) rows =
+GivesArguments (copies file lab from to) rows =
     HasText (codes "file") rows file × HasText (codes "lab") rows lab
     × HasNumber (codes "from") rows from × IsTrue (is_ordinal from)
     × HasNumber (codes "to") rows to × IsTrue (is_ordinal to)
-Gives (migrates old new) rows =
+GivesArguments (migrates old new) rows =
     HasText (codes "old") rows old × HasText (codes "new") rows new
-Gives checks rows = Unit {0}
-Gives replays rows = Unit {0}
-Gives (rehearses lab moment) rows =
+GivesArguments checks rows = Unit {0}
+GivesArguments replays rows = Unit {0}
+GivesArguments (rehearses lab moment) rows =
     HasText (codes "lab") rows lab × HasNumber (codes "moment") rows moment
     × IsTrue (is_moment moment)
 
 -- the words are at no fault to `clap`, and name it with its arguments
-pub record Asks (asked : Asked) (words : List (List ℕ)) : Type 0 where
+pub record AsksTask (asked : Asked) (words : List (List ℕ)) : Type 0 where
   pub unfaulted : fault_of labdesk_app words ≡ []
   pub rows : List Row
   pub entered : subcommand_of labdesk_app words ≡ Some (name_of asked, rows)
-  pub given : Gives asked rows
+  pub given : GivesArguments asked rows
 
 -- ---- what is read of them
 

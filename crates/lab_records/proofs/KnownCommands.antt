@@ -28,7 +28,7 @@ use Rattle.lab_people.specs.Issues.{asking, confirming}
 use Rattle.lab_forms.specs.declared.forms.Field.{Field}
 use Rattle.lab_forms.specs.declared.kinds.Kind.TheVariants.{Number}
 use Rattle.lab_forms.specs.Forms.{value_refusal}
-use Rattle.lab_forms.specs.Numbers.{is_number, amount, is_unsigned_number, is_digits, without_sign, without_comparison, millionths_of, number_of}
+use Rattle.lab_forms.specs.Numbers.{is_number, amount, is_unsigned_number, is_digits, without_sign, without_comparison, millionths_of, decimal_value}
 use Rattle.lab_seal_versions.specs.declared.states.State.TheVariants.{Open as IsOpen, Signed as IsSigned}
 use Rattle.lab_records_kept.specs.declared.needs.Slice.{Slice}
 use Rattle.lab_records_kept.specs.declared.changes.Change.TheVariants.{PersonAdded, PersonSet, SessionAdded, SessionSet, SessionsClosed, FormAdded, RecordAdded, RowAdded, SignatureAdded}
@@ -305,7 +305,7 @@ pub known_entries : (tick : Tick)
     (RowAdded 1
     (record { key = codes "lead"; value = codes "7.5"; unit = codes "mg/L"; person = codes "dan"; moment = 1200; reason = Some (codes "misread scale") })
     ∷ []))
-unfolding done_on_record value_refusal is_note is_utf8 chars encode is_number amount is_unsigned_number is_digits without_sign without_comparison millionths_of number_of
+unfolding done_on_record value_refusal is_note is_utf8 chars encode is_number amount is_unsigned_number is_digits without_sign without_comparison millionths_of decimal_value
 known_entries tick = (refl, refl, refl)
 
 -- an open version isn't amended

@@ -15,7 +15,7 @@ use Rattle.lab_seal.specs.Reading.{◌>>=◌}
 use Rattle.lab_copy_rows.specs.Copies.{AreFlawless, StandFor, IsSoundCopy, edition_of, is_end, is_of_edition, line_in, may_follow, is_some_and, is_none_or, is_of_version, was_asked, is_later_record, has_its_numbers, last_of, last_record, counts_of, are_same_counts, record_in, version_in, entry_in, signature_in, is_in_place, flaw_shown, flaw_of_last_version, flaw_of_line}
 use Rattle.lab_copy_rows.specs.Lines.{IsLine}
 use Rattle.lab_copy_rows.specs.Reading.{columns_of, line_of}
-use Rattle.lab_copy_rows.specs.Rows.{fields_in, header_row, row_of}
+use Rattle.lab_copy_rows.specs.Rows.{fields_in, header_row, columns_of_line}
 use Rattle.lab_copy_rows.specs.declared.flaws.Flaw.TheVariants as flaw
 use Rattle.lab_copy_rows.specs.declared.lines.CopyLine.{CopyLine}
 use Rattle.lab_copy_rows.specs.declared.lines.Counts.{Counts}

@@ -14,7 +14,7 @@ use Rattle.lab_records_kept.specs.Digests.{digest_of, sealed_parts}
 use Rattle.lab_records_kept.specs.Lookups.{records_within}
 use Rattle.lab_records_kept.specs.Values.{version_state}
 use Rattle.lab_copy_rows.specs.Copies.{counts_of}
-use Rattle.lab_copy_rows.specs.Rows.{fields_in, header_row, kind_in, row_of}
+use Rattle.lab_copy_rows.specs.Rows.{fields_in, header_row, kind_in, columns_of_line}
 use Rattle.lab_copy_rows.specs.declared.lines.Edition.TheVariants.{Two}
 use Rattle.lab_copy_rows.specs.declared.lines.Counts.{Counts}
 use Rattle.lab_copy_rows.specs.declared.lines.CopyLine.{CopyLine}
@@ -124,7 +124,7 @@ copy_lines lab name order records =
 
 -- the fields of a line's row, and of the rows of lines
 abbrev pub fields_of_line : Line → List (List ℕ)
-fields_of_line line = fields_in (row_of line)
+fields_of_line line = fields_in (columns_of_line line)
 
 abbrev pub rows_of_lines : List Line → List (List (List ℕ))
 rows_of_lines lines = map fields_of_line lines

@@ -1,10 +1,10 @@
 -- A keeper that is read twice, or not at all, is as it was but for what was read.
 use Rattle.std.proofs.Common.{refl, ◌∙◌}
 use Rattle.lab_records_keeper.specs.Worlds.{World, Given}
-use Rattle.lab_records_copy_out.specs.Resting.{IsRead}
+use Rattle.lab_records_copy_out.specs.Resting.{IsOnlyRead}
 
 pub read_none : {S : Type 0} (world : S → World) (rests : S → S → Type 0) (it : S) →
-    rests it it → IsRead world rests it it
+    rests it it → IsOnlyRead world rests it it
 read_none world rests it still = record {
   same = λ honest reached live code. refl;
   rested = λ honest reached live. still;
@@ -18,8 +18,8 @@ read_none world rests it still = record {
 pub read_on : {S : Type 0} (world : S → World) (rests : S → S → Type 0) (first next last : S) →
     (rests first next → rests next last → rests first last) →
     Given (world first) (world next) ((world first).is_live → (world next).is_live) →
-    IsRead world rests first next → IsRead world rests next last →
-    IsRead world rests first last
+    IsOnlyRead world rests first next → IsOnlyRead world rests next last →
+    IsOnlyRead world rests first last
 read_on world rests first next last on alive one other = record {
   same = λ honest reached live code.
       let earlier = other.passes.honest honest in

@@ -4,7 +4,7 @@
 use Rattle.lab_records_keeper.specs.Worlds.{World, Given, Leaves, Passes, Quiet, StaysSafe}
 
 -- a keeper is as it was but for what it read
-pub record IsRead {S : Type 0} (world : S → World) (rests : S → S → Type 0) (old new : S)
+pub record IsOnlyRead {S : Type 0} (world : S → World) (rests : S → S → Type 0) (old new : S)
     : Type 0 where
   -- every laboratory means what it meant, and the rows rest, where the keeper is there to tell
   pub same : Given (world old) (world new) (Leaves (world old) (world new))

@@ -6,7 +6,7 @@ ghost use Rattle.lab_records_keeper.specs.Worlds.{Given};
 ghost use Rattle.lab_forms_texts.specs.Ordinals.{last_ordinal};
 ghost use Rattle.lab_copy_rows.specs.Csv.{csv_text};
 ghost use Rattle.lab_records_copy_out.specs.Faults.{CopyFaultFits};
-ghost use Rattle.lab_records_copy_out.specs.Resting.{IsRead};
+ghost use Rattle.lab_records_copy_out.specs.Resting.{IsOnlyRead};
 ghost use Rattle.lab_records_copy_out.specs.Walks.{record_rows, walked_to};
 
 use crate::CopyOutFault;
@@ -53,7 +53,7 @@ pub trait RecordGiver<S: Keeper> {
         ensures lives { (S.world keeper.old).is_live →
             Given (S.world keeper.old) (S.world keeper.new)
             (OnOk result (S.world keeper.new).is_live) }
-        ensures read { IsRead S.world S.rests keeper.old keeper.new };
+        ensures read { IsOnlyRead S.world S.rests keeper.old keeper.new };
 }
 
 /// Reads each record whole, and then writes its rows: a way for every keeper.

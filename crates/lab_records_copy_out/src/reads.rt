@@ -6,7 +6,7 @@ ghost use Rattle.lab_records_kept.specs.declared.needs.RecordWanted.TheVariants.
 ghost use Rattle.lab_records_kept.specs.Parts.{part_of};
 ghost use Rattle.lab_records_keeper.specs.Worlds.{Given, KeeperFaultFits, Lives};
 ghost use Rattle.lab_forms_texts.specs.Ordinals.{last_ordinal, ordinal_of};
-ghost use Rattle.lab_records_copy_out.specs.Resting.{IsRead};
+ghost use Rattle.lab_records_copy_out.specs.Resting.{IsOnlyRead};
 ghost use Rattle.lab_records_copy_out.specs.Walks.{desk_order, last_walked, record_at, record_need};
 
 use lab_copy_rows::{CopyLine, Edition};
@@ -26,7 +26,7 @@ pub(crate) fn head_of<S: Keeper>(
     ensures lives { Given (S.world keeper.old) (S.world keeper.new)
         (OnOk result (Lives (S.world keeper.old) (S.world keeper.new))) }
     ensures fault { IfErr result (KeeperFaultFits (S.world keeper.old).may_refuse) }
-    ensures read { IsRead S.world S.rests keeper.old keeper.new }
+    ensures read { IsOnlyRead S.world S.rests keeper.old keeper.new }
 {
     let need = Need {
         token: None,
@@ -56,7 +56,7 @@ pub(crate) fn read_record<S: Keeper>(
     ensures lives { Given (S.world keeper.old) (S.world keeper.new)
         (OnOk result (Lives (S.world keeper.old) (S.world keeper.new))) }
     ensures fault { IfErr result (KeeperFaultFits (S.world keeper.old).may_refuse) }
-    ensures read { IsRead S.world S.rests keeper.old keeper.new }
+    ensures read { IsOnlyRead S.world S.rests keeper.old keeper.new }
 {
     let need = need_of(number);
     let loaded = keeper.load(lab, &need);

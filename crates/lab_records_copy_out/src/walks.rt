@@ -6,7 +6,7 @@ ghost use Rattle.lab_records_keeper.specs.Worlds.{Given, Lives};
 ghost use Rattle.lab_forms_texts.specs.Ordinals.{last_ordinal};
 ghost use Rattle.lab_records_copy_out.specs.Faults.{CopyFaultFits, OnTold};
 ghost use Rattle.lab_records_copy_out.specs.Legible.{CanCopy, SendsSound};
-ghost use Rattle.lab_records_copy_out.specs.Resting.{IsRead};
+ghost use Rattle.lab_records_copy_out.specs.Resting.{IsOnlyRead};
 ghost use Rattle.lab_records_copy_out.specs.Walks.{AreCountable, CanWalk, copy_text, desk_order, text_under, walked_to};
 
 use crate::CopyOutFault;
@@ -64,7 +64,7 @@ pub fn copy_out<S: Keeper, G: RecordGiver<S>, W: Write, P: Progress>(
     ensures nothing { result ≡ Err CopyOutFault.NoSuchLab → writer.new ≡ writer.old }
     ensures lives { Given (S.world keeper.old) (S.world keeper.new)
         (OnTold result (Lives (S.world keeper.old) (S.world keeper.new))) }
-    ensures read { IsRead S.world S.rests keeper.old keeper.new }
+    ensures read { IsOnlyRead S.world S.rests keeper.old keeper.new }
 {
     order_is_legible(from, to, moment);
     match head_of(keeper, lab) {
@@ -100,7 +100,7 @@ fn copy_under<S: Keeper, G: RecordGiver<S>, W: Write, P: Progress>(
     ensures lives { (S.world keeper.old).is_live →
         Given (S.world keeper.old) (S.world keeper.new)
         (OnOk result (S.world keeper.new).is_live) }
-    ensures read { IsRead S.world S.rests keeper.old keeper.new }
+    ensures read { IsOnlyRead S.world S.rests keeper.old keeper.new }
 {
     let mut out = CopyOut::start(alloc, writer, &line)?;
     giver.give_records(

@@ -7,7 +7,7 @@ ghost use Rattle.lab_records_keeper.specs.Worlds.{Given, Lives};
 ghost use Rattle.lab_forms_texts.specs.Ordinals.{last_ordinal};
 ghost use Rattle.lab_copy_rows.specs.Csv.{csv_text};
 ghost use Rattle.lab_records_copy_out.specs.Faults.{CopyFaultFits};
-ghost use Rattle.lab_records_copy_out.specs.Resting.{IsRead};
+ghost use Rattle.lab_records_copy_out.specs.Resting.{IsOnlyRead};
 ghost use Rattle.lab_records_copy_out.specs.Walks.{record_at, record_rows, walked_to};
 
 use crate::CopyOutFault;
@@ -52,7 +52,7 @@ pub(crate) fn give_wholes<S: Keeper, W: Write, P: Progress>(
     ensures lives { (S.world keeper.old).is_live →
         Given (S.world keeper.old) (S.world keeper.new)
         (OnOk result (S.world keeper.new).is_live) }
-    ensures read { IsRead S.world S.rests keeper.old keeper.new }
+    ensures read { IsOnlyRead S.world S.rests keeper.old keeper.new }
 {
     let first = from.get();
     let end = last + 1;
@@ -87,7 +87,7 @@ fn give_at<S: Keeper, W: Write>(
         (CopyFaultFits ⊥ (S.world keeper.old).may_refuse (Unit {0})) }
     ensures lives { Given (S.world keeper.old) (S.world keeper.new)
         (OnOk result (Lives (S.world keeper.old) (S.world keeper.new))) }
-    ensures read { IsRead S.world S.rests keeper.old keeper.new }
+    ensures read { IsOnlyRead S.world S.rests keeper.old keeper.new }
 {
     match read_record(keeper, lab, number) {
         Ok(Some(kept)) => give_whole(alloc, lab, kept, out, writer),

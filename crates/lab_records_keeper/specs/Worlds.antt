@@ -85,12 +85,12 @@ abbrev pub Lives : World → World → Type 0
 Lives old new = old.is_live × new.is_live
 
 -- these are the laboratories, where the keeper is there to tell
-abbrev pub Tells : World → Meaning → Type 0
-Tells world meaning = world.is_live → SameMeaning meaning world.meaning
+abbrev pub HoldsMeaning : World → Meaning → Type 0
+HoldsMeaning world meaning = world.is_live → SameMeaning meaning world.meaning
 
 -- every laboratory means what it meant, where the keeper is there to tell
 abbrev pub Leaves : World → World → Type 0
-Leaves old new = Tells new old.meaning
+Leaves old new = HoldsMeaning new old.meaning
 
 -- ---- what a crash may leave, after a call of a keeper that no fault had shut
 

@@ -5,7 +5,7 @@ use Rattle.lab_records_kept.specs.declared.births.Newborn.{Newborn}
 use Rattle.lab_records_kept.specs.declared.labs.Lab.{Lab}
 use Rattle.lab_records_kept.specs.declared.trails.Deed.TheVariants.{Found}
 use Rattle.lab_records_kept.specs.Changes.{added_person}
-use Rattle.lab_records_kept.specs.Trails.{row_of}
+use Rattle.lab_records_kept.specs.Trails.{trail_row_of}
 
 abbrev pub newborn_lab : Newborn → Lab
 newborn_lab newborn = record {
@@ -18,5 +18,5 @@ newborn_lab newborn = record {
   sessions = [];
   forms = [];
   records = [];
-  trail = row_of 1 newborn.moment None (Found newborn.code) ∷ [];
+  trail = trail_row_of 1 newborn.moment None (Found newborn.code) ∷ [];
 }

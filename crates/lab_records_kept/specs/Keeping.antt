@@ -14,7 +14,7 @@ use Rattle.lab_records_kept.specs.declared.records.Signature.{Signature}
 use Rattle.lab_records_kept.specs.declared.trails.Deed.{Deed}
 use Rattle.lab_records_kept.specs.declared.trails.Deed.TheVariants.{Record, Entry, Amend, Sign}
 use Rattle.lab_records_kept.specs.declared.labs.Lab.{Lab}
-use Rattle.lab_records_kept.specs.Trails.{row_of}
+use Rattle.lab_records_kept.specs.Trails.{trail_row_of}
 use Rattle.lab_records_kept.specs.Lookups.{exact_form, record_of, last_of, version_of}
 use Rattle.lab_records_kept.specs.Changes.{SamePerson, SameSession, IsKnown, in_record, entered_in, opened_in, signed_in}
 
@@ -171,7 +171,7 @@ pub record IsToldOnce (old new : Lab) : Type 0 where
   pub deed : Deed
   pub moment : ℕ
   pub person : List ℕ
-  pub told : new.trail ≡ old.trail ++ row_of (length old.trail + 1) moment (Some person) deed ∷ []
+  pub told : new.trail ≡ old.trail ++ trail_row_of (length old.trail + 1) moment (Some person) deed ∷ []
   pub at : moment ≡ new.last
   pub by : IsKnown old person
   pub done : IsDoneTo deed old.persons old.records new.records moment person

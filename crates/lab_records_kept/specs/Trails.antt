@@ -97,8 +97,8 @@ subject_text (IsSigned number version meaning) =
     decimal number ++ slashed version ++ codes "/" ++ meaning_word meaning
 
 -- the row that tells of a deed
-abbrev pub row_of : ℕ → ℕ → Option (List ℕ) → Deed → TrailRow
-row_of number moment person deed = record {
+abbrev pub trail_row_of : ℕ → ℕ → Option (List ℕ) → Deed → TrailRow
+trail_row_of number moment person deed = record {
   number = number;
   moment = moment;
   person = person;

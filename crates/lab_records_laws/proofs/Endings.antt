@@ -12,7 +12,7 @@ use Rattle.lab_records_kept.specs.declared.changes.Change.TheVariants.{Last}
 use Rattle.lab_records_kept.specs.declared.trails.Deed.{Deed}
 use Rattle.lab_records_kept.specs.declared.trails.TrailRow.{TrailRow}
 use Rattle.lab_records_kept.specs.Limits.{count_limit, stray_limit}
-use Rattle.lab_records_kept.specs.Trails.{row_of}
+use Rattle.lab_records_kept.specs.Trails.{trail_row_of}
 use Rattle.lab_records_kept.specs.Changes.{AllFit, change, changed, with_session}
 use Rattle.lab_records_rules.specs.declared.refusals.Refusal.TheVariants.{People}
 use Rattle.lab_records_machine.specs.declared.commands.Command.{Command}
@@ -53,7 +53,7 @@ told_last Premise lab moment person deed own adds =
     ap (λ (rows : List TrailRow). length rows + 1) (sym adds.trail) in
     let same : change after row ≡ told moment (Some person) deed after =
     ap (λ n. record after {
-      trail = after.trail ++ row_of n moment (Some person) deed ∷ [];
+      trail = after.trail ++ trail_row_of n moment (Some person) deed ∷ [];
     }) number in
     record {
       fits = λ given. all_fit_on lab own (row ∷ []) (adds.fits given)

@@ -12,7 +12,7 @@ use Rattle.lab_records_kept.specs.declared.trails.Deed.{Deed}
 use Rattle.lab_records_kept.specs.declared.trails.Deed.TheVariants.{Refuse, Lock}
 use Rattle.lab_records_kept.specs.declared.trails.Occasion.{Occasion}
 use Rattle.lab_records_kept.specs.Limits.{count_limit, stray_limit}
-use Rattle.lab_records_kept.specs.Trails.{row_of}
+use Rattle.lab_records_kept.specs.Trails.{trail_row_of}
 use Rattle.lab_records_kept.specs.Changes.{IsKnown, Fits, AllFit, change, changed}
 use Rattle.lab_records_machine.specs.Cases.{told, told_if_room, failed}
 use Rattle.lab_records_laws.proofs.FitAttempts.{FitsAttempt}
@@ -59,7 +59,7 @@ two_case true lab moment person first second is known = record {
 two_case false lab moment person first second is known =
     let next = told moment (Some person) first lab in
     let after = told_if_room moment person second next in
-    let row = row_of (length lab.trail + 1) moment (Some person) first in
+    let row = trail_row_of (length lab.trail + 1) moment (Some person) first in
     let rest : Becomes next (trail_row_if_room (length lab.trail + 1) moment person second) after =
     subst (λ rows. Becomes next (trail_row_if_room rows moment person second) after)
     (longer lab.trail row) (noted_is next moment person second known) in

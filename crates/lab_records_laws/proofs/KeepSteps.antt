@@ -23,7 +23,7 @@ use Rattle.lab_records_kept.specs.declared.trails.TrailRow.{TrailRow}
 use Rattle.lab_records_kept.specs.Limits.{AreFormsNumbered, count_limit}
 use Rattle.lab_records_kept.specs.Lookups.{last_form, exact_form, record_of, record_about}
 use Rattle.lab_records_kept.specs.Lookups.{person_at, caller_of}
-use Rattle.lab_records_kept.specs.Trails.{row_of}
+use Rattle.lab_records_kept.specs.Trails.{trail_row_of}
 use Rattle.lab_records_kept.specs.Changes.{IsKnown, with_person, with_session}
 use Rattle.lab_records_kept.specs.Keeping.{Extends, IsPrefix, KeepsPersons, KeepsSession, KeepsRecord, IsToldOnce, Keeps}
 use Rattle.lab_records_rules.specs.Making.{making, opening_record}
@@ -186,7 +186,7 @@ keeps_itself lab =
 told_frame : (old new : Lab) (moment : ℕ) (person : Option (List ℕ)) (deed : Deed) → IsFrame old new
     → IsFrame old (told moment person deed new)
 told_frame old new moment person deed frame =
-    let row = row_of (length new.trail + 1) moment person deed in
+    let row = trail_row_of (length new.trail + 1) moment person deed in
     record {
       rest = record {
         code = frame.rest.code;
@@ -245,7 +245,7 @@ done_told lab after deed moment person trail active (inr done) = inr (record {
   moment = moment;
   person = person;
   told = ap (λ (rows : List TrailRow).
-      rows ++ row_of (length rows + 1) moment (Some person) deed ∷ []) trail;
+      rows ++ trail_row_of (length rows + 1) moment (Some person) deed ∷ []) trail;
   at = sym active;
   by = done.0;
   done = done.1;
@@ -255,7 +255,7 @@ done_told lab after deed moment person trail active (inr done) = inr (record {
 told_keeps : (lab after : Lab) (deed : Deed) (moment : ℕ) (person : List ℕ)
     → IsMade moment lab after deed moment person → Keeps lab (told moment (Some person) deed after)
 told_keeps lab after deed moment person made =
-    let row = row_of (length after.trail + 1) moment (Some person) deed in
+    let row = trail_row_of (length after.trail + 1) moment (Some person) deed in
     record {
       code = made.rest.code;
       name = made.rest.name;

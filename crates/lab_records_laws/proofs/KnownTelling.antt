@@ -7,7 +7,7 @@ use Rattle.lab_people_access.specs.declared.persons.Person.{Person}
 use Rattle.lab_people_access.specs.Roles.{no_roles}
 use Rattle.lab_records_kept.specs.declared.trails.Deed.TheVariants.{Refuse, Lock, Entry, Sign as SignDeed}
 use Rattle.lab_records_kept.specs.declared.trails.Occasion.TheVariants.{Opening, Signing}
-use Rattle.lab_records_kept.specs.Trails.{row_of}
+use Rattle.lab_records_kept.specs.Trails.{trail_row_of}
 use Rattle.lab_records_rules.specs.declared.outcomes.Signing.TheVariants.{Review}
 use Rattle.lab_seal_versions.specs.declared.seals.Meaning.TheVariants.{Review as AsReviewer}
 use Rattle.lab_records_machine.specs.declared.commands.Command.TheVariants.{Card, Open, In}
@@ -79,12 +79,12 @@ nobodys = (refl, refl, refl)
 -- ---- as many rows as there is room for
 
 both : rows_in_room 41 1000 (codes "dan") (Refuse Opening ∷ Lock (codes "dan") ∷ [])
-    ≡ row_of 42 1000 (Some (codes "dan")) (Refuse Opening)
-    ∷ row_of 43 1000 (Some (codes "dan")) (Lock (codes "dan")) ∷ []
+    ≡ trail_row_of 42 1000 (Some (codes "dan")) (Refuse Opening)
+    ∷ trail_row_of 43 1000 (Some (codes "dan")) (Lock (codes "dan")) ∷ []
 both = refl
 
 one_left : rows_in_room 999999999 1000 (codes "dan") (Refuse Opening ∷ Lock (codes "dan") ∷ [])
-    ≡ row_of 1000000000 1000 (Some (codes "dan")) (Refuse Opening) ∷ []
+    ≡ trail_row_of 1000000000 1000 (Some (codes "dan")) (Refuse Opening) ∷ []
 one_left = refl
 
 none_left : rows_in_room 1000000000 1000 (codes "dan") (Refuse Opening ∷ []) ≡ []

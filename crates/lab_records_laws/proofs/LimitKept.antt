@@ -18,7 +18,7 @@ use Rattle.lab_records_kept.specs.Changes.{with_person, with_session, in_record}
 use Rattle.lab_records_kept.specs.Lookups.{record_of}
 use Rattle.lab_people_access.specs.Persons.{person_limit}
 use Rattle.lab_records_kept.specs.Limits.{IsWithin, IsOrderly, IsByForm, AreInOrder, AreNumbered, count_limit, record_limit, stray_limit}
-use Rattle.lab_records_kept.specs.Trails.{row_of}
+use Rattle.lab_records_kept.specs.Trails.{trail_row_of}
 use Rattle.lab_records_machine.specs.Cases.{told, told_if_room, failed, more_strays}
 use Rattle.lab_records_laws.proofs.LimitLists.{numbered_same, numbered_more, same_length, longer}
 use Rattle.lab_records_laws.proofs.LimitParts.{session_number, session_numbers, closed_numbers, person_code, person_codes, order_same}
@@ -190,7 +190,7 @@ record_within lab number next kept found same orderly by_form within =
 pub told_within : (lab : Lab) (moment : ℕ) (person : Option (List ℕ)) (deed : Deed)
     → length lab.trail < count_limit → IsWithin lab → IsWithin (told moment person deed lab)
 told_within lab moment person deed room within =
-    let row = row_of (length lab.trail + 1) moment person deed in
+    let row = trail_row_of (length lab.trail + 1) moment person deed in
     let long : length (lab.trail ++ row ∷ []) ≡ length lab.trail + 1 = longer lab.trail row in
     record {
       persons = within.persons;

@@ -13,9 +13,9 @@ use Rattle.lab_records_kept.specs.declared.trails.Occasion.{Occasion}
 use Rattle.lab_records_kept.specs.declared.trails.TrailRow.{TrailRow}
 use Rattle.lab_records_kept.specs.Changes.{with_person}
 use Rattle.lab_records_kept.specs.Limits.{count_limit}
-use Rattle.lab_records_kept.specs.Trails.{row_of}
+use Rattle.lab_records_kept.specs.Trails.{trail_row_of}
 use Rattle.lab_records_machine.specs.Cases.{told, told_if_room, failed}
-use Rattle.lab_records_laws.specs.Telling.{rows_of, rows_in_room}
+use Rattle.lab_records_laws.specs.Telling.{trail_rows_of, rows_in_room}
 
 -- ---- numbers and lists
 
@@ -47,7 +47,7 @@ one_longer (first ∷ others) one =
 
 -- the row that tells of a person's deed, behind so many rows
 abbrev row : ℕ → ℕ → List ℕ → Deed → TrailRow
-row count moment person deed = row_of (count + 1) moment (Some person) deed
+row count moment person deed = trail_row_of (count + 1) moment (Some person) deed
 
 -- with a row more, where there is room
 one_by : (full : Bool) (lab : Lab) (moment : ℕ) (person : List ℕ) (deed : Deed)
@@ -79,7 +79,7 @@ two_by true lab moment person deed next h =
     let count = length lab.trail in
     one_told lab moment person next
     ∙ subst (λ room. lab.trail ++ take room (row count moment person next ∷ [])
-    ≡ lab.trail ++ take room (rows_of count moment person (deed ∷ next ∷ [])))
+    ≡ lab.trail ++ take room (trail_rows_of count moment person (deed ∷ next ∷ [])))
     (sym (no_room count_limit count h)) refl
 two_by false lab moment person deed next h =
     let count = length lab.trail in
@@ -90,7 +90,7 @@ two_by false lab moment person deed next h =
     (one_longer lab.trail one)
     ∙ one_behind lab.trail rest one
     ∙ subst (λ room. lab.trail ++ one ∷ rest
-    ≡ lab.trail ++ take room (rows_of count moment person (deed ∷ next ∷ [])))
+    ≡ lab.trail ++ take room (trail_rows_of count moment person (deed ∷ next ∷ [])))
     (sym (some_room count_limit count h)) refl
 
 two_told : (lab : Lab) (moment : ℕ) (person : List ℕ) (deed next : Deed)

@@ -16,7 +16,7 @@ use Rattle.lab_records_kept.specs.declared.trails.Occasion.{Occasion}
 use Rattle.lab_records_kept.specs.Changes.{with_session}
 use Rattle.lab_records_kept.specs.Limits.{count_limit}
 use Rattle.lab_records_kept.specs.Lookups.{person_at, caller_of}
-use Rattle.lab_records_kept.specs.Trails.{row_of}
+use Rattle.lab_records_kept.specs.Trails.{trail_row_of}
 use Rattle.lab_records_rules.specs.declared.refusals.Refusal.{Refusal}
 use Rattle.lab_records_rules.specs.declared.refusals.Refusal.TheVariants.{ClockBehind, People}
 use Rattle.lab_records_machine.specs.declared.commands.Command.{Command}
@@ -122,7 +122,7 @@ made_by false old before after moment instruction code reply deed nothing by is 
       by = by;
       deed = deed;
       done = is.done;
-      row = ap (λ rows. rows ++ row_of (length rows + 1) moment (Some code) deed ∷ []) is.same;
+      row = ap (λ rows. rows ++ trail_row_of (length rows + 1) moment (Some code) deed ∷ []) is.same;
     }))
 
 read_tells : (old after : Lab) (moment : ℕ) (instruction : Instruction) (reply : Reply)

@@ -18,7 +18,7 @@ use Rattle.lab_records_kept.specs.declared.trails.Occasion.TheVariants.{Opening,
 use Rattle.lab_records_kept.specs.declared.trails.TrailRow.{TrailRow}
 use Rattle.lab_records_kept.specs.Limits.{count_limit}
 use Rattle.lab_records_kept.specs.Lookups.{caller_of, person_at}
-use Rattle.lab_records_kept.specs.Trails.{row_of}
+use Rattle.lab_records_kept.specs.Trails.{trail_row_of}
 use Rattle.lab_records_rules.specs.declared.refusals.Refusal.{Refusal}
 use Rattle.lab_records_rules.specs.declared.refusals.Refusal.TheVariants.{People}
 use Rattle.lab_records_versions.specs.Signing.{signed_meaning}
@@ -99,7 +99,7 @@ pub record HasItsRow (old : Lab) (moment : ℕ) (instruction : Instruction) (rep
   pub deed : Deed
   pub done : deed_of person instruction.command reply ≡ Some deed
   pub row : new.trail
-      ≡ old.trail ++ row_of (length old.trail + 1) moment (Some person) deed ∷ []
+      ≡ old.trail ++ trail_row_of (length old.trail + 1) moment (Some person) deed ∷ []
 
 abbrev pub TellsWhere : Bool → Lab → ℕ → Instruction → Reply → Lab → Type 0
 TellsWhere true old moment instruction reply new = HasItsRow old moment instruction reply new
@@ -133,15 +133,15 @@ failure_deeds (Some person) moment occasion =
     else Refuse occasion ∷ [])
 
 -- the rows of a person's deeds, behind so many rows
-abbrev pub rows_of : ℕ → ℕ → List ℕ → List Deed → List TrailRow
-rows_of count moment person [] = []
-rows_of count moment person (deed ∷ deeds) =
-    row_of (count + 1) moment (Some person) deed ∷ rows_of (count + 1) moment person deeds
+abbrev pub trail_rows_of : ℕ → ℕ → List ℕ → List Deed → List TrailRow
+trail_rows_of count moment person [] = []
+trail_rows_of count moment person (deed ∷ deeds) =
+    trail_row_of (count + 1) moment (Some person) deed ∷ trail_rows_of (count + 1) moment person deeds
 
 -- as many of them as the trail has room for
 abbrev pub rows_in_room : ℕ → ℕ → List ℕ → List Deed → List TrailRow
 rows_in_room count moment person deeds =
-    take (count_limit - count) (rows_of count moment person deeds)
+    take (count_limit - count) (trail_rows_of count moment person deeds)
 
 -- a failed password has its rows
 pub record FailureTells (old : Lab) (moment : ℕ) (instruction : Instruction) (new : Lab)

@@ -26,7 +26,7 @@ use Rattle.lab_records_kept.specs.declared.trails.Deed.TheVariants.{Refuse, Lock
 use Rattle.lab_records_kept.specs.declared.trails.Occasion.TheVariants.{Opening}
 use Rattle.lab_records_kept.specs.Changes.{with_person}
 use Rattle.lab_records_kept.specs.Limits.{count_limit}
-use Rattle.lab_records_kept.specs.Trails.{row_of}
+use Rattle.lab_records_kept.specs.Trails.{trail_row_of}
 use Rattle.lab_records_rules.specs.declared.items.Item.{Item}
 use Rattle.lab_records_rules.specs.declared.refusals.Refusal.TheVariants.{People}
 use Rattle.lab_records_machine.specs.declared.commands.Command.{Command}
@@ -141,7 +141,7 @@ noted_at rows lab moment person deed room is =
 one_more : (lab : Lab) (moment : ℕ) (person : List ℕ) (deed : Deed)
     → length (told moment (Some person) deed lab).trail ≡ length lab.trail + 1
 one_more lab moment person deed =
-    length-append lab.trail (row_of (length lab.trail + 1) moment (Some person) deed ∷ [])
+    length-append lab.trail (trail_row_of (length lab.trail + 1) moment (Some person) deed ∷ [])
 
 -- a password that locks, where the trail has room for both rows, for the first, and for none
 pub known_lock_both : (lab : Lab) (moment : ℕ) (person : Person) → length lab.trail ≡ 999999998

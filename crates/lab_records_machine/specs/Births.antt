@@ -16,7 +16,7 @@ use Rattle.lab_records_keeper.specs.declared.faults.PlacingFault.TheVariants.{La
 use Rattle.lab_records_kept.specs.declared.trails.Deed.TheVariants.{Found}
 use Rattle.lab_records_kept.specs.Changes.{added_person}
 use Rattle.lab_records_keeper.specs.Faults.{placing_fault_entry}
-use Rattle.lab_records_kept.specs.Trails.{row_of}
+use Rattle.lab_records_kept.specs.Trails.{trail_row_of}
 use Rattle.lab_records_machine.specs.declared.births.Founder.{Founder}
 use Rattle.lab_records_machine.specs.declared.births.Founding.{Founding}
 use Rattle.lab_records_machine.specs.declared.births.BirthRefusal.{BirthRefusal}
@@ -67,7 +67,7 @@ newborn code tick founding = record {
   sessions = [];
   forms = [];
   records = [];
-  trail = row_of 1 tick.moment None (Found code) ∷ [];
+  trail = trail_row_of 1 tick.moment None (Found code) ∷ [];
 }
 
 -- where there is none of the code yet

@@ -9,7 +9,7 @@ use Rattle.lab_records_kept.specs.declared.trails.Deed.{Deed}
 use Rattle.lab_records_kept.specs.declared.trails.Deed.TheVariants.{Refuse, Lock}
 use Rattle.lab_records_kept.specs.declared.trails.Occasion.{Occasion}
 use Rattle.lab_records_kept.specs.Limits.{count_limit, stray_limit}
-use Rattle.lab_records_kept.specs.Trails.{row_of}
+use Rattle.lab_records_kept.specs.Trails.{trail_row_of}
 use Rattle.lab_records_kept.specs.Changes.{with_person}
 use Rattle.lab_records_rules.specs.declared.refusals.Refusal.{Refusal}
 use Rattle.lab_records_machine.specs.declared.replies.Reply.{Reply}
@@ -25,7 +25,7 @@ pub data Case : Type 0 where
 -- a laboratory with one more row in its trail
 abbrev pub told : ℕ → Option (List ℕ) → Deed → Lab → Lab
 told moment person deed lab = record lab {
-  trail = lab.trail ++ row_of (length lab.trail + 1) moment person deed ∷ [];
+  trail = lab.trail ++ trail_row_of (length lab.trail + 1) moment person deed ∷ [];
 }
 
 -- a laboratory with one more row in its trail, where the trail has room; otherwise as it was

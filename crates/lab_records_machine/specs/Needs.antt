@@ -64,15 +64,15 @@ record_on_record (Amend number reason altered) = Some (Numbered number)
 record_on_record (Sign number version digest signing password code) = Some (Numbered number)
 
 -- the record that is read
-abbrev pub record_read : ReadingCommand → Option RecordWanted
-record_read (ReadRecord number) = Some (Numbered number)
-record_read (ReadVersion number version) = Some (Numbered number)
-record_read _ = None
+abbrev pub record_wanted : ReadingCommand → Option RecordWanted
+record_wanted (ReadRecord number) = Some (Numbered number)
+record_wanted (ReadVersion number version) = Some (Numbered number)
+record_wanted _ = None
 
 -- the record
 abbrev pub record_in : Command → Option RecordWanted
 record_in (In (OnRecord command)) = record_on_record command
-record_in (In (Reading command)) = record_read command
+record_in (In (Reading command)) = record_wanted command
 record_in _ = None
 
 -- the list that is read

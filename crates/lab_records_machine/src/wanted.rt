@@ -2,7 +2,7 @@
 ghost use Rattle.std.specs.Prelude.{◌≡◌, IfOk, IsTrue, OnErr};
 ghost use Rattle.lab_records_machine.specs.declared.commands.Command.TheVariants.{In};
 ghost use Rattle.lab_records_machine.specs.declared.commands.SessionCommand.TheVariants.{OnAccount, OnRecord};
-ghost use Rattle.lab_records_machine.specs.Needs.{token_in, person_on_account, person_in, form_in, record_on_record, record_read, record_in, list_read, list_in, need_of, names_text};
+ghost use Rattle.lab_records_machine.specs.Needs.{token_in, person_on_account, person_in, form_in, record_on_record, record_wanted, record_in, list_read, list_in, need_of, names_text};
 
 use crate::commands::{
     AccountCommand, Command, Instruction, ReadingCommand, RecordCommand, SessionCommand,
@@ -104,7 +104,7 @@ fn record_in(command: &Command) -> Result<Option<RecordWanted>, OutOfMemory>
 {
     match command {
         Command::In(SessionCommand::OnRecord(command)) => record_on_record(command),
-        Command::In(SessionCommand::Reading(command)) => Ok(record_read(command)),
+        Command::In(SessionCommand::Reading(command)) => Ok(record_wanted(command)),
         _ => Ok(None),
     }
 }
@@ -129,8 +129,8 @@ fn record_on_record(command: &RecordCommand) -> Result<Option<RecordWanted>, Out
 }
 
 // The record that a command reads.
-fn record_read(command: &ReadingCommand) -> Option<RecordWanted>
-    ensures { result ≡ record_read command.now }
+fn record_wanted(command: &ReadingCommand) -> Option<RecordWanted>
+    ensures { result ≡ record_wanted command.now }
 {
     match command {
         ReadingCommand::ReadRecord { number } | ReadingCommand::ReadVersion { number, .. } => {

@@ -4,7 +4,7 @@ ghost use Rattle.lab_records_kept.specs.declared.trails.Deed.TheVariants.{Found}
 ghost use Rattle.lab_records_kept.specs.Births.{newborn_lab};
 ghost use Rattle.lab_records_kept.specs.Changes.{added_person};
 ghost use Rattle.lab_records_kept.specs.Parts.{part_of};
-ghost use Rattle.lab_records_kept.specs.Trails.{row_of};
+ghost use Rattle.lab_records_kept.specs.Trails.{trail_row_of};
 ghost use Rattle.lab_records_keeper.specs.Worlds.{Changes};
 ghost use Rattle.lab_records_memory.specs.Lists.{has_code, lab_of, ChangesInPlace};
 
@@ -224,7 +224,7 @@ fn founders(
 // The first row of the trail, which states that the laboratory was founded.
 fn first_trail(alloc: Global, newborn: &Newborn) -> Result<Series<TrailRow>, OutOfMemory>
     ensures { IfOk result (λ trail.
-        trail ≡ row_of 1 newborn.now.moment None (Found newborn.now.code) ∷ []) }
+        trail ≡ trail_row_of 1 newborn.now.moment None (Found newborn.now.code) ∷ []) }
 {
     let subject = Subject::new(String::from_str(alloc, newborn.code.as_str())?);
     let mut trail = Series::new(alloc);

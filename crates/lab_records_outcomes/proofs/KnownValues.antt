@@ -11,17 +11,17 @@ use Rattle.lab_records_kept.specs.declared.changes.Change.{Change}
 use Rattle.lab_records_kept.specs.declared.changes.Change.TheVariants.{Last, Strays, PersonSet, SessionSet, SessionsClosed, TrailAdded}
 use Rattle.lab_records_kept.specs.declared.trails.Deed.TheVariants.{Open, Refuse, Lock}
 use Rattle.lab_records_kept.specs.declared.trails.Occasion.TheVariants.{Opening}
-use Rattle.lab_records_kept.specs.Trails.{row_of}
+use Rattle.lab_records_kept.specs.Trails.{trail_row_of}
 use Rattle.lab_records_rules.specs.declared.refusals.Refusal.TheVariants.{People}
 use Rattle.lab_records_machine.specs.declared.replies.Reply.TheVariants.{Refused, Closed}
 use Rattle.lab_records_outcomes.specs.Deciding.{IsFailureWritten, failure_changes, outcome, made_end, touch_changes, noted_changes}
 
 -- the row of that number, that the person's password was refused, or that the account was locked
 abbrev refused_row : ℕ → Person → Change
-refused_row number person = TrailAdded (row_of number 500 (Some person.code) (Refuse Opening))
+refused_row number person = TrailAdded (trail_row_of number 500 (Some person.code) (Refuse Opening))
 
 abbrev locked_row : ℕ → Person → Change
-locked_row number person = TrailAdded (row_of number 500 (Some person.code) (Lock person.code))
+locked_row number person = TrailAdded (trail_row_of number 500 (Some person.code) (Lock person.code))
 
 -- a password that locks: with room for two rows, for one, and for none
 pub known_locks : (person : Person)
@@ -55,7 +55,7 @@ known_writings person = (refl, refl, refl)
 pub known_ends : (own : Change)
     → (made_end 999999999 500 (codes "dan") (Closed 3) (Open 3) (own ∷ [])
     ≡ outcome (Closed 3)
-    (own ∷ TrailAdded (row_of 1000000000 500 (Some (codes "dan")) (Open 3)) ∷ []))
+    (own ∷ TrailAdded (trail_row_of 1000000000 500 (Some (codes "dan")) (Open 3)) ∷ []))
     × (made_end 1000000000 500 (codes "dan") (Closed 3) (Open 3) (own ∷ [])
     ≡ outcome (Refused (People LabFull)) [])
 known_ends own = (refl, refl)

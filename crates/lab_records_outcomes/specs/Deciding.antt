@@ -16,7 +16,7 @@ use Rattle.lab_records_kept.specs.declared.trails.Deed.{Deed}
 use Rattle.lab_records_kept.specs.declared.trails.Deed.TheVariants.{Refuse, Lock}
 use Rattle.lab_records_kept.specs.declared.trails.Occasion.{Occasion}
 use Rattle.lab_records_kept.specs.Limits.{count_limit}
-use Rattle.lab_records_kept.specs.Trails.{row_of}
+use Rattle.lab_records_kept.specs.Trails.{trail_row_of}
 use Rattle.lab_records_rules.specs.declared.refusals.Refusal.TheVariants.{ClockBehind, People}
 use Rattle.lab_records_machine.specs.declared.commands.Command.{Command}
 use Rattle.lab_records_machine.specs.declared.commands.Command.TheVariants.{Card, Open, In}
@@ -37,7 +37,7 @@ use Rattle.lab_records_machine.specs.Done.{opened_done, done_of}
 
 -- the row of a deed, in a trail of `rows` rows
 abbrev pub trail_row : ℕ → ℕ → List ℕ → Deed → Change
-trail_row rows moment person deed = TrailAdded (row_of (rows + 1) moment (Some person) deed)
+trail_row rows moment person deed = TrailAdded (trail_row_of (rows + 1) moment (Some person) deed)
 
 -- one row, where there is room for it
 abbrev pub trail_row_if_room : ℕ → ℕ → List ℕ → Deed → List Change

@@ -2,7 +2,7 @@
 //! changes, and what a full trail refuses.
 ghost use Rattle.std.specs.Prelude.{◌≡◌, ◌++◌, ◌∷◌, [], Some, false, nat_le, IfOk, OnErr};
 ghost use Rattle.lab_records_kept.specs.Limits.{count_limit};
-ghost use Rattle.lab_records_kept.specs.Trails.{row_of};
+ghost use Rattle.lab_records_kept.specs.Trails.{trail_row_of};
 ghost use Rattle.lab_records_outcomes.specs.Deciding.{IsWritten, failure_changes, outcome, made_end, end_by, touch_changes, is_noted, noted_changes, noted_end};
 
 use crate::outcome::Outcome;
@@ -235,7 +235,7 @@ fn told_end(
     own: Series<Change>,
 ) -> Result<Outcome, OutOfMemory>
     ensures { IfOk result (λ made. made ≡ outcome reply
-        (own ++ Change.TrailAdded (row_of number moment (Some person.now) deed) ∷ [])) }
+        (own ++ Change.TrailAdded (trail_row_of number moment (Some person.now) deed) ∷ [])) }
 {
     let changes = deed_changes(alloc, own, number, moment, person, &deed);
     drop(deed);

@@ -1,10 +1,10 @@
 //! Replies and rows of the trail: for a refusal, for a failed password, and for what was made.
 ghost use Rattle.std.specs.Prelude.{◌≡◌, ◌++◌, ◌∷◌, [], Some, IfOk, OnErr};
-ghost use Rattle.lab_records_kept.specs.Trails.{row_of};
+ghost use Rattle.lab_records_kept.specs.Trails.{trail_row_of};
 ghost use Rattle.lab_records_outcomes.specs.Deciding.{IsFailureWritten, failure_changes, outcome};
 
 use crate::outcome::Outcome;
-use crate::trail_rows::{fail, row_of};
+use crate::trail_rows::{fail, trail_row_of};
 use lab_forms_texts::{Moment, Ordinal, OutOfMemory, PersonCode, Series};
 use lab_people_access::{Failure, PeopleRefusal};
 use lab_records_kept::{Change, Deed, Occasion};
@@ -60,9 +60,9 @@ pub fn deed_changes(
     deed: &Deed,
 ) -> Result<Series<Change>, OutOfMemory>
     ensures { IfOk result (λ changes. changes
-        ≡ own ++ Change.TrailAdded (row_of number moment (Some person.now) deed.now) ∷ []) }
+        ≡ own ++ Change.TrailAdded (trail_row_of number moment (Some person.now) deed.now) ∷ []) }
 {
-    let row = row_of(alloc, number, moment, person, deed)?;
+    let row = trail_row_of(alloc, number, moment, person, deed)?;
     let mut changes = own;
     changes.push(Change::TrailAdded(row))?;
     Ok(changes)

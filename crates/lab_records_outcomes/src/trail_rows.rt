@@ -1,7 +1,7 @@
 //! The rows that are added to a trail of a given length, and what a failed password changes.
 ghost use Rattle.std.specs.Prelude.{◌≡◌, ◌+◌, ◌++◌, ◌∷◌, Some, true, false, nat_le, IfOk, OnOk, OnErr, MatchOption};
 ghost use Rattle.lab_records_kept.specs.Limits.{count_limit};
-ghost use Rattle.lab_records_kept.specs.Trails.{row_of};
+ghost use Rattle.lab_records_kept.specs.Trails.{trail_row_of};
 ghost use Rattle.lab_records_machine.specs.Cases.{more_strays};
 ghost use Rattle.lab_records_outcomes.specs.Deciding.{IsFailureWritten, trail_row_if_room, trail_rows_if_room, failure_changes};
 
@@ -30,14 +30,14 @@ pub fn next_number(rows: u64) -> Option<Ordinal>
 ///
 /// # Errors
 /// Memory ran out.
-pub fn row_of(
+pub fn trail_row_of(
     alloc: Global,
     number: Ordinal,
     moment: Moment,
     person: &PersonCode,
     deed: &Deed,
 ) -> Result<TrailRow, OutOfMemory>
-    ensures { IfOk result (λ row. row ≡ row_of number moment (Some person.now) deed.now) }
+    ensures { IfOk result (λ row. row ≡ trail_row_of number moment (Some person.now) deed.now) }
 {
     let person = person.copy()?;
     let subject = subject_of(alloc, deed)?;
@@ -67,7 +67,7 @@ fn add_row_if_room(
     let Some(number) = next_number(rows) else {
         return Ok(());
     };
-    let row = row_of(alloc, number, moment, person, deed)?;
+    let row = trail_row_of(alloc, number, moment, person, deed)?;
     changes.push(Change::TrailAdded(row))?;
     Ok(())
 }
@@ -90,7 +90,7 @@ fn add_rows_if_room(
     let Some(number) = next_number(rows) else {
         return Ok(());
     };
-    let row = row_of(alloc, number, moment, person, first)?;
+    let row = trail_row_of(alloc, number, moment, person, first)?;
     changes.push(Change::TrailAdded(row))?;
     let told = u64::from(number.get());
     add_row_if_room(alloc, changes, told, moment, person, second)

@@ -67,8 +67,8 @@ reading_version lab (Some kept) number =
     reading_found lab kept (version_of kept.versions number)
 
 -- a record, with the number and the state of its last version
-abbrev pub number_of : Version → ℕ
-number_of version = version.origin.number
+abbrev pub number_of_version : Version → ℕ
+number_of_version version = version.origin.number
 
 abbrev pub current_state : Record → Option Version → Option State
 current_state kept None = None
@@ -79,7 +79,7 @@ record_line kept = record {
   number = kept.number;
   form = kept.form.code;
   sample = kept.sample;
-  current = option_map number_of (last_of kept.versions);
+  current = option_map number_of_version (last_of kept.versions);
   state = current_state kept (last_of kept.versions);
 }
 

@@ -9,7 +9,7 @@ use Rattle.lab_forms.specs.declared.faults.FormRefusal.TheVariants.{NoSuchField,
 use Rattle.lab_forms.specs.declared.forms.Field.{Field}
 use Rattle.lab_forms.specs.declared.kinds.Kind.TheVariants.{Number}
 use Rattle.lab_forms.specs.Forms.{value_refusal}
-use Rattle.lab_forms.specs.Numbers.{is_number, amount, is_unsigned_number, is_digits, without_sign, without_comparison, millionths_of, number_of}
+use Rattle.lab_forms.specs.Numbers.{is_number, amount, is_unsigned_number, is_digits, without_sign, without_comparison, millionths_of, decimal_value}
 use Rattle.lab_seal_versions.specs.declared.rows.EntryRow.{EntryRow}
 use Rattle.lab_seal_versions.specs.declared.seals.Meaning.{Meaning}
 use Rattle.lab_seal_versions.specs.declared.seals.Meaning.TheVariants.{Authorship, Review}
@@ -82,7 +82,7 @@ pub known_refusals : (entering (codes "aqua") None (lead_of (codes "7.50")) None
     × (entering (codes "aqua") (Some (about empty)) (item (codes "lead") (codes "7.50") (codes "g/L")) None (codes "dan") 1100
     ≡ Err (Form WrongUnit))
     × (entering (codes "aqua") (Some (about empty)) (lead_of (codes "-1")) None (codes "dan") 1100 ≡ Err (Form OutOfRange))
-unfolding value_refusal is_note is_utf8 chars encode is_number amount is_unsigned_number is_digits without_sign without_comparison millionths_of number_of
+unfolding value_refusal is_note is_utf8 chars encode is_number amount is_unsigned_number is_digits without_sign without_comparison millionths_of decimal_value
 known_refusals = (refl, refl, refl, refl, refl, refl, refl)
 
 -- the first value of a key needs no reason, and every later one does; the row bears who entered it and when
@@ -98,7 +98,7 @@ pub known_entries : (entering (codes "aqua") (Some (about empty)) (lead_of (code
       digest = digest_of (codes "aqua") (about entered)
           (version (row (codes "7.50") 1100 None ∷ row (codes "7.5") 1200 (Some (codes "misread")) ∷ []) []);
     }))
-unfolding value_refusal is_note is_utf8 chars encode is_number amount is_unsigned_number is_digits without_sign without_comparison millionths_of number_of
+unfolding value_refusal is_note is_utf8 chars encode is_number amount is_unsigned_number is_digits without_sign without_comparison millionths_of decimal_value
 known_entries = (refl, refl, refl)
 
 -- ---- amendments
@@ -115,7 +115,7 @@ pub known_unamended : (amending (codes "aqua") None (Some (codes "misread")) (le
     ≡ Err (NotAltered (codes "lead")))
     × (amending (codes "aqua") (Some (about released)) (Some (codes "misread"))
     (item (codes "zinc") (codes "7.5") (codes "mg/L") ∷ lead_of (codes "7.50") ∷ []) (codes "dan") 1500 ≡ Err (Form NoSuchField))
-unfolding value_refusal is_note is_utf8 chars encode is_number amount is_unsigned_number is_digits without_sign without_comparison millionths_of number_of
+unfolding value_refusal is_note is_utf8 chars encode is_number amount is_unsigned_number is_digits without_sign without_comparison millionths_of decimal_value
 known_unamended = (refl, refl, refl, refl, refl, refl, refl)
 
 -- version 2, which dan opened at 1500: it names the digest of version 1, and each of its rows bears the reason
@@ -134,7 +134,7 @@ second = record {
 
 pub known_amendment : amending (codes "aqua") (Some (about released)) (Some (codes "misread")) (lead_of (codes "7.5") ∷ []) (codes "dan") 1500
     ≡ Ok (record { number = 1; version = second; digest = digest_of (codes "aqua") (about released) second })
-unfolding value_refusal is_note is_utf8 chars encode is_number amount is_unsigned_number is_digits without_sign without_comparison millionths_of number_of
+unfolding value_refusal is_note is_utf8 chars encode is_number amount is_unsigned_number is_digits without_sign without_comparison millionths_of decimal_value
 known_amendment = refl
 
 -- the table is made once there is a reason, and something that is altered

@@ -8,7 +8,7 @@ use Rattle.lab_forms_texts.specs.Calendar.{days_of_spans, span_of, place_of, pla
 use Rattle.lab_forms_texts.specs.Moment.{moment_of, moment_text}
 use Rattle.lab_forms_texts.specs.Names.{is_lab_code, is_person_code, is_key, is_name, is_note, is_unit}
 use Rattle.lab_seal_hashes.specs.Digits.{bytes_of_digits}
-use Rattle.lab_seal.specs.Reading.{number_of, line_of, first_item, first_as}
+use Rattle.lab_seal.specs.Reading.{number_written, line_of, first_item, first_as}
 use Rattle.lab_seal_versions.specs.declared.versions.Format.TheVariants.{One, Two}
 use Rattle.lab_seal_versions.specs.declared.rows.EntryRow.{EntryRow}
 use Rattle.lab_seal.specs.Parts.{first_heading, first_format, first_subject, first_no_amendment, first_amendment, first_origin, first_opening, first_row}
@@ -20,7 +20,7 @@ pub known_headings :
     × (first_heading (codes "11:labrecord 3\n4:aqua\n1:1\n1:1\n") ≡ None)
     × (first_heading (codes "11:labrecord 1\n4:Aqua\n1:1\n1:1\n") ≡ None)
     × (first_heading (codes "11:labrecord 1\n4:aqua\n1:0\n1:1\n") ≡ None)
-unfolding first_heading first_as first_item line_of number_of digits is_lab_code is_utf8 chars encode
+unfolding first_heading first_as first_item line_of number_written digits is_lab_code is_utf8 chars encode
 known_headings = (refl, refl, refl, refl, refl)
 
 -- what the record is about; the newer format alone says whether an approval is wanted
@@ -29,7 +29,7 @@ pub known_subjects :
     × (first_subject true (codes "5:water\n1:1\n2:no\n2:S1\n") ≡ Some ((codes "water", 1, Two false, codes "S1"), []))
     × (first_subject true (codes "5:water\n1:1\n3:yes\n2:S1\n") ≡ Some ((codes "water", 1, Two true, codes "S1"), []))
     × (first_subject true (codes "5:water\n1:1\n2:S1\n") ≡ None)
-unfolding first_subject first_format first_as first_item line_of number_of digits is_key is_name is_utf8 chars encode
+unfolding first_subject first_format first_as first_item line_of number_written digits is_key is_name is_utf8 chars encode
 known_subjects = (refl, refl, refl, refl)
 
 -- the first version amends none, and every other one the version of a digest, of 64 digits
@@ -37,12 +37,12 @@ pub known_origins :
     (first_origin 1 (codes "1:-\n0:\n3:dan\n") ≡ Some (None, codes "3:dan\n"))
     × (first_origin 1 (codes "64:0000000000000000000000000000000000000000000000000000000000000000\n7:misread\n") ≡ None)
     × (first_origin 2 (codes "1:-\n0:\n") ≡ None)
-unfolding first_origin first_no_amendment first_amendment first_as first_item line_of number_of digits bytes_of_digits
+unfolding first_origin first_no_amendment first_amendment first_as first_item line_of number_written digits bytes_of_digits
 known_origins = (refl, refl, refl)
 
 -- who opened it and when, and how many rows it has
 pub known_openings : first_opening (codes "3:dan\n20:1970-01-01T00:16:40Z\n1:1\n4:lead\n") ≡ Some ((codes "dan", 1000, 1), codes "4:lead\n")
-unfolding first_opening first_as first_item line_of number_of digits is_person_code is_utf8 chars encode moment_of moment_text year_of place_in_year month_of day_of_month hour_of minute_of second_of days_of_spans span_of place_of
+unfolding first_opening first_as first_item line_of number_written digits is_person_code is_utf8 chars encode moment_of moment_text year_of place_in_year month_of day_of_month hour_of minute_of second_of days_of_spans span_of place_of
 known_openings = refl
 
 abbrev entered : EntryRow
@@ -61,5 +61,5 @@ pub known_rows :
     × (first_row (codes "4:lead\n4:7.50\n4:mg/L\n3:dan\n20:1970-01-01T00:18:20Z\n7:misread\n4:lead\n")
     ≡ Some (record entered { reason = Some (codes "misread") }, codes "4:lead\n"))
     × (first_row (codes "4:lead\n4:7.50\n4:mg/L\n3:dan\n19:1970-01-01 00:18:20\n0:\n") ≡ None)
-unfolding first_row first_as first_item line_of number_of digits is_key is_note is_unit is_name is_person_code is_utf8 chars encode moment_of moment_text year_of place_in_year month_of day_of_month hour_of minute_of second_of days_of_spans span_of place_of
+unfolding first_row first_as first_item line_of number_written digits is_key is_note is_unit is_name is_person_code is_utf8 chars encode moment_of moment_text year_of place_in_year month_of day_of_month hour_of minute_of second_of days_of_spans span_of place_of
 known_rows = (refl, refl, refl)

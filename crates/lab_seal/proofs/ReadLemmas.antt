@@ -13,7 +13,7 @@ use Rattle.std.proofs.lemmas.List.{take-append-drop, drop_more, get_or_at, take_
 use Rattle.std.proofs.lemmas.Slice.Eq.{bytes_eq-Decides}
 use Rattle.std.proofs.lemmas.Str.{IsUtf8-from_ascii, is_utf8-from_IsUtf8, IsUtf8-from_is_utf8}
 use Rattle.lab_seal_versions.specs.Versions.{item}
-use Rattle.lab_seal.specs.Reading.{number_if_spelled, number_of, line_of, first_item, ◌>>=◌}
+use Rattle.lab_seal.specs.Reading.{number_if_spelled, number_written, line_of, first_item, ◌>>=◌}
 use Rattle.lab_seal.proofs.ItemLemmas.{item_text, first_colon, around_colon}
 
 -- the steps of a reader that came to something
@@ -31,8 +31,8 @@ some_same x y e = cc
 
 -- ---- numbers
 
-pub number_sound : (digits : List ℕ) (n : ℕ) → number_of digits ≡ Some n → (n < 2 ^ 64) × (digits ≡ decimal n)
-unfolding number_of
+pub number_sound : (digits : List ℕ) (n : ℕ) → number_written digits ≡ Some n → (n < 2 ^ 64) × (digits ≡ decimal n)
+unfolding number_written
 number_sound digits n e =
     let v : ℕ = digits_value 10 digits in
     let both = when_some (nat_lt v (2 ^ 64) && bytes_eq (decimal v) digits) v n e in
@@ -42,8 +42,8 @@ number_sound digits n e =
     let is : v ≡ n = both.1 in
     (omega arith, sym same ∙ ap decimal is)
 
-pub number_complete : (n : ℕ) → n < 2 ^ 64 → number_of (decimal n) ≡ Some n
-unfolding number_of
+pub number_complete : (n : ℕ) → n < 2 ^ 64 → number_written (decimal n) ≡ Some n
+unfolding number_written
 number_complete n small =
     let value = (decimal_is_IsNumeral n small).1 in
     let test = and_from (nat_lt n (2 ^ 64)) (bytes_eq (decimal n) (decimal n)) (lt-ltb n (2 ^ 64) small)
@@ -100,7 +100,7 @@ unfolding first_item
 item_sound text bytes rest e =
     let at = bind_some (position (λ byte. byte == 58) text) _ (bytes, rest) e in
     let colon : ℕ = at.0 in
-    let told = bind_some (number_of (take colon text)) _ (bytes, rest) at.2 in
+    let told = bind_some (number_written (take colon text)) _ (bytes, rest) at.2 in
     let count : ℕ = told.0 in
     let number = number_sound (take colon text) count told.1 in
     let line = line_sound count (drop (colon + 1) text) bytes rest told.2 in
@@ -130,10 +130,10 @@ item_complete bytes rest small =
     ap (drop (length ds + 1)) (sym (append_assoc ds (58 ∷ []) (bytes ++ 10 ∷ rest)))
     ∙ drop_at (ds ++ 58 ∷ []) (bytes ++ 10 ∷ rest) (length ds + 1) next in
     let after : List ℕ → ℕ → Option (List ℕ × List ℕ) =
-    λ (t : List ℕ) (colon : ℕ). number_of (take colon t) >>= (λ count. line_of count (drop (colon + 1) t)) in
+    λ (t : List ℕ) (colon : ℕ). number_written (take colon t) >>= (λ count. line_of count (drop (colon + 1) t)) in
     ap (λ t. position (λ byte. byte == 58) t >>= after t) whole
     ∙ ap (λ o. o >>= after text) at
-    ∙ ap (λ l. number_of l >>= (λ count. line_of count (drop (length ds + 1) text))) front
+    ∙ ap (λ l. number_written l >>= (λ count. line_of count (drop (length ds + 1) text))) front
     ∙ ap (λ o. o >>= (λ count. line_of count (drop (length ds + 1) text))) (number_complete (length bytes) small)
     ∙ ap (line_of (length bytes)) back
     ∙ line_complete bytes rest
@@ -154,10 +154,10 @@ err_said P Q (Err y) e h = (y, h)
 -- ---- numbers
 
 -- digits that are those of no number
-pub number_none : (digits : List ℕ) → ((n : ℕ) → n < 2 ^ 64 → digits ≢ decimal n) → number_of digits ≡ None
-number_none digits none = by (number_of digits) refl
+pub number_none : (digits : List ℕ) → ((n : ℕ) → n < 2 ^ 64 → digits ≢ decimal n) → number_written digits ≡ None
+number_none digits none = by (number_written digits) refl
   where
-    by : (o : Option ℕ) → number_of digits ≡ o → number_of digits ≡ None
+    by : (o : Option ℕ) → number_written digits ≡ o → number_written digits ≡ None
     by None e = e
     by (Some n) e = let told = number_sound digits n e in absurd (none n told.0 told.1)
 
@@ -165,13 +165,13 @@ number_none digits none = by (number_of digits) refl
 pub decimal_utf8 : (n : ℕ) → n < 2 ^ 64 → IsUtf8 (decimal n)
 decimal_utf8 n small = IsUtf8-from_ascii (decimal n) (IsAscii-decimal n small)
 
-pub number_not_text : (digits : List ℕ) → (IsUtf8 digits → ⊥) → number_of digits ≡ None
+pub number_not_text : (digits : List ℕ) → (IsUtf8 digits → ⊥) → number_written digits ≡ None
 number_not_text digits unfit =
     number_none digits (λ n small e. let P : List ℕ → Type 0 = λ l. IsUtf8 l in unfit (subst P (sym e) (decimal_utf8 n small)))
 
 -- what the parser of numbers makes of the digits of one
 pub number_unparsed : {E : Type 0} (digits text : List ℕ) (r : Result ℕ E) → text ≡ digits → ParsesUnsigned 64 10 text r
-    → result_ok r ≡ None → number_of digits ≡ None
+    → result_ok r ≡ None → number_written digits ≡ None
 number_unparsed {E} digits text r same parses e =
     number_none digits (λ n small at.
     let read : r ≡ Ok n = parse-decimal 64 n text r small small (same ∙ at) parses in
@@ -180,7 +180,7 @@ number_unparsed {E} digits text r same parses e =
 
 pub number_other : {E : Type 0} (digits text printed : List ℕ) (r : Result ℕ E) (value : ℕ) → text ≡ digits
     → ParsesUnsigned 64 10 text r → result_ok r ≡ Some value → printed ≡ decimal value → bytes_eq printed digits ≡ false
-    → number_of digits ≡ None
+    → number_written digits ≡ None
 number_other {E} digits text printed r value same parses e prints differs =
     number_none digits (λ n small at.
     let read : r ≡ Ok n = parse-decimal 64 n text r small small (same ∙ at) parses in
@@ -192,18 +192,18 @@ number_other {E} digits text printed r value same parses e prints differs =
     absurd (cc))
 
 pub number_read : (digits printed : List ℕ) (value : ℕ) → value < 2 ^ 64 → printed ≡ decimal value
-    → bytes_eq printed digits ≡ true → number_of digits ≡ Some value
+    → bytes_eq printed digits ≡ true → number_written digits ≡ Some value
 number_read digits printed value small prints equal =
     let same : printed ≡ digits = (bytes_eq-Decides printed digits).0 equal in
-    ap number_of (sym same ∙ prints) ∙ number_complete value small
+    ap number_written (sym same ∙ prints) ∙ number_complete value small
 
 -- digits that are read by themselves
 pub one_digit : (digits : List ℕ) (n : ℕ) → 1 ≤ length digits → length digits < 2 → 48 + n ≡ get_or digits 0 0 → n < 10
-    → Some n ≡ number_of digits
+    → Some n ≡ number_written digits
 one_digit [] n least most is small = absurd (grind (arith, nat_tests))
 one_digit (only ∷ []) n least most is small =
     let spelled : decimal n ≡ only ∷ [] = decimal_digit n small ∙ ap (λ d. d ∷ []) is in
-    sym (ap number_of (sym spelled) ∙ number_complete n (omega arith))
+    sym (ap number_written (sym spelled) ∙ number_complete n (omega arith))
 one_digit (only ∷ other ∷ more) n least most is small = absurd (grind (arith, nat_tests))
 
 two_spelled : (tens ones m n : ℕ) → 48 + m ≡ tens → 48 + n ≡ ones → 0 < m → m < 10 → n < 10
@@ -217,12 +217,12 @@ two_spelled tens ones m n is_tens is_ones some small_tens small_ones =
     ∙ ap (λ d. d ∷ ones ∷ []) is_tens
 
 pub two_digits : (digits : List ℕ) (m n : ℕ) → 2 ≤ length digits → length digits < 3 → 48 + m ≡ get_or digits 0 0
-    → 48 + n ≡ get_or digits 1 0 → 0 < m → m < 10 → n < 10 → Some (10 * m + n) ≡ number_of digits
+    → 48 + n ≡ get_or digits 1 0 → 0 < m → m < 10 → n < 10 → Some (10 * m + n) ≡ number_written digits
 two_digits [] m n least most is_tens is_ones some small_tens small_ones = absurd (grind (arith, nat_tests))
 two_digits (only ∷ []) m n least most is_tens is_ones some small_tens small_ones = absurd (grind (arith, nat_tests))
 two_digits (tens ∷ ones ∷ []) m n least most is_tens is_ones some small_tens small_ones =
     let spelled = two_spelled tens ones m n is_tens is_ones some small_tens small_ones in
-    sym (ap number_of (sym spelled) ∙ number_complete (10 * m + n) (omega arith))
+    sym (ap number_written (sym spelled) ∙ number_complete (10 * m + n) (omega arith))
 two_digits (tens ∷ ones ∷ other ∷ more) m n least most is_tens is_ones some small_tens small_ones =
     absurd (grind (arith, nat_tests))
 

@@ -15,7 +15,7 @@ use Rattle.lab_forms_texts.proofs.MomentLemmas.{moment_complete, moment_sound}
 use Rattle.lab_seal_hashes.specs.Digits.{bytes_of_digits}
 use Rattle.lab_seal_hashes.proofs.DigitsLemmas.{digits_complete, digits_sound}
 use Rattle.lab_seal_versions.specs.Versions.{reason_text, IsDigest, IsReason}
-use Rattle.lab_seal.specs.Reading.{text_where, this_word, which_word, number_of, ordinal_in, reason_in, moment_in, ◌>>=◌}
+use Rattle.lab_seal.specs.Reading.{text_where, this_word, which_word, number_written, ordinal_in, reason_in, moment_in, ◌>>=◌}
 use Rattle.lab_seal.proofs.PartLemmas.{Spelling}
 use Rattle.lab_seal.proofs.ReadLemmas.{bind_some, when_some, some_same, number_sound, number_complete, decimal_short}
 use Rattle.lab_seal.proofs.TextLemmas.{note_utf8, note_short, moment_utf8, moment_short}
@@ -103,7 +103,7 @@ choice_spelling one other differ low small = record {
 
 abbrev pub count_spelling : Spelling ℕ
 count_spelling = record {
-  reads = number_of;
+  reads = number_written;
   IsGood = λ n. n < 2 ^ 64;
   bytes_of = decimal;
   sound = number_sound;
@@ -116,7 +116,7 @@ ordinal_low n h = let low : n ≤ 1000000000 = grind (arith, nat_tests) in omega
 
 pub ordinal_sound : (bytes : List ℕ) (n : ℕ) → ordinal_in bytes ≡ Some n → IsTrue (is_ordinal n) × (bytes ≡ decimal n)
 ordinal_sound bytes n e =
-    let a = bind_some (number_of bytes) ordinal_of n e in
+    let a = bind_some (number_written bytes) ordinal_of n e in
     let m : ℕ = a.0 in
     let both = when_some (is_ordinal m) m n a.2 in
     let P : ℕ → Type 0 = λ v. IsTrue (is_ordinal v) × (bytes ≡ decimal v) in

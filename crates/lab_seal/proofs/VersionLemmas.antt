@@ -9,9 +9,9 @@ use Rattle.std.proofs.lemmas.List.Elements.{All-nil, All-cons, All-head, All-tai
 use Rattle.lab_forms_texts.specs.Moment.{moment_text}
 use Rattle.lab_forms_texts.specs.Names.{is_lab_code, is_person_code, is_key, is_name, is_note, is_unit}
 use Rattle.lab_seal_versions.specs.Origins.{first_number, AmendsUnlessFirst}
-use Rattle.lab_seal_versions.specs.Versions.{item, format_word, approval_text, reason_text, row_text, heading_text, subject_text, origin_text, opening_text, front_text, version_text, IsAmendment, IsRow, IsFront, IsVersion, IsNoVersion, IsSomeVersion, OneSpelling}
+use Rattle.lab_seal_versions.specs.Versions.{item, format_word, approval_text, reason_text, row_text, heading_text, subject_text, origin_text, opening_text, front_text, version_text, IsAmendment, IsRow, IsFrontAdmitted, IsVersion, IsNoVersion, IsSomeVersion, OneSpelling}
 use Rattle.lab_seal.specs.Reading.{first_as, ◌>>=◌}
-use Rattle.lab_seal.specs.Parts.{first_heading, first_format, first_subject, first_no_amendment, first_amendment, first_origin, first_opening, first_front, first_row, first_rows, HeadingValue, SubjectValue, OpeningValue, FrontValue, version_of, AreAllRows}
+use Rattle.lab_seal.specs.Parts.{first_heading, first_format, first_subject, first_no_amendment, first_amendment, first_origin, first_opening, first_front, first_row, first_rows, HeadingValue, SubjectValue, OpeningValue, FrontValue, version_parts_of, AreAllRows}
 use Rattle.lab_seal.specs.Faults.{TextFaultFits}
 use Rattle.lab_seal.specs.declared.faults.BadText.{BadText}
 use Rattle.lab_forms_texts.specs.declared.refusals.Fault.{Fault}
@@ -400,7 +400,7 @@ front_written parts =
     (item parts.form) (item (decimal parts.form_version)) (approval_text parts.format) (item parts.sample)
     (origin_text parts.origin.amendment) (item parts.opener) (item (moment_text parts.opened)) (item (decimal (length parts.rows)))
 
-front_good : (parts : VersionParts) → IsFront parts → front_reader.IsGood (front_value parts)
+front_good : (parts : VersionParts) → IsFrontAdmitted parts → front_reader.IsGood (front_value parts)
 front_good parts is = (
   (tt, (is.heading.lab, (is.heading.record_number, is.heading.number))),
   (
@@ -411,8 +411,8 @@ front_good parts is = (
 
 -- the version that was read, part by part
 pub record HasVersion (bytes : List ℕ) (front : FrontValue) (rows : List EntryRow) (rest : List ℕ) : Type 0 where
-  pub version : IsVersion (version_of front rows)
-  pub text_is : bytes ≡ version_text (version_of front rows) ++ rest
+  pub version : IsVersion (version_parts_of front rows)
+  pub text_is : bytes ≡ version_text (version_parts_of front rows) ++ rest
 
 pub version_sound : (bytes : List ℕ) (front : FrontValue) (more : List ℕ) (rows : List EntryRow) (rest : List ℕ)
     → first_front bytes ≡ Some (front, more) → first_rows front.opening.2 more ≡ Some (rows, rest)
@@ -422,7 +422,7 @@ version_sound bytes front more rows rest e f =
     let has = front_reader.sound bytes (front, more) e in
     let good = has.0 in
     let all = rows_sound front.opening.2 more (rows, rest) f in
-    let parts : VersionParts = version_of front rows in
+    let parts : VersionParts = version_parts_of front rows in
     let newer : front.heading.0 ≡ is_newer parts.format = sym good.1.0.1.1.0.told in
     let count : front.opening.2 ≡ length rows = sym all.counted in
     let same : front ≡ front_value parts = λ i. record {
@@ -476,7 +476,7 @@ one_spelling one other rest more is_one is_other e =
     let rows : (one.rows, rest) ≡ (other.rows, more) =
     some_same _ _ (sym a.rows ∙ ap (λ n. first_rows n (flat_map row_text one.rows ++ rest)) count
     ∙ ap (first_rows (length other.rows)) behind_front ∙ b.rows) in (
-      λ i. version_of (front i) (rows i).0,
+      λ i. version_parts_of (front i) (rows i).0,
       ap (λ (p : List EntryRow × List ℕ). p.1) rows,
     )
 
@@ -503,8 +503,8 @@ ends bytes front more e parts is at =
 
 -- bytes that are read to their end
 pub record IsRead (bytes : List ℕ) (front : FrontValue) (rows : List EntryRow) : Type 0 where
-  pub version : IsVersion (version_of front rows)
-  pub text : version_text (version_of front rows) ≡ bytes
+  pub version : IsVersion (version_parts_of front rows)
+  pub text : version_text (version_parts_of front rows) ≡ bytes
 
 pub read_whole : (bytes : List ℕ) (front : FrontValue) (more : List ℕ) (rows : List EntryRow)
     → first_front bytes ≡ Some (front, more) → first_rows front.opening.2 more ≡ Some (rows, []) → IsRead bytes front rows
@@ -512,11 +512,11 @@ read_whole bytes front more rows e f =
     let has = version_sound bytes front more rows [] e f in
     record {
       version = has.version;
-      text = sym (has.text_is ∙ append-nil (version_text (version_of front rows)));
+      text = sym (has.text_is ∙ append-nil (version_text (version_parts_of front rows)));
     }
 
 pub some_version : {bytes : List ℕ} {front : FrontValue} {rows : List EntryRow} → IsRead bytes front rows → IsSomeVersion bytes
-some_version {bytes} {front} {rows} read = record { parts = version_of front rows; version = read.version; text = read.text }
+some_version {bytes} {front} {rows} read = record { parts = version_parts_of front rows; version = read.version; text = read.text }
 
 rows_before : (o : Option (List EntryRow × List ℕ)) (rest : List ℕ) → option_map (λ found. found.1) o ≡ Some rest
     → (rows : List EntryRow) × (o ≡ Some (rows, rest))

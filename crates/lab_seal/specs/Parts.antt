@@ -16,7 +16,7 @@ use Rattle.lab_seal_versions.specs.declared.rows.EntryRow.{EntryRow}
 use Rattle.lab_seal_versions.specs.declared.versions.Format.{Format}
 use Rattle.lab_seal_versions.specs.declared.versions.Format.TheVariants.{One, Two}
 use Rattle.lab_seal_versions.specs.declared.versions.VersionParts.{VersionParts}
-use Rattle.lab_seal.specs.Reading.{◌>>=◌, number_of, first_as, text_where, this_word, which_word, ordinal_in, reason_in, moment_in}
+use Rattle.lab_seal.specs.Reading.{◌>>=◌, number_written, first_as, text_where, this_word, which_word, ordinal_in, reason_in, moment_in}
 
 -- which version it is: whether its format is the newer one, the laboratory, the record's number and
 -- its own
@@ -77,7 +77,7 @@ unfoldable pub first_opening : List ℕ → Option (OpeningValue × List ℕ)
 first_opening text = do
   opener ← first_as (text_where is_person_code) text
   opened ← first_as moment_in opener.1
-  rows ← first_as number_of opened.1
+  rows ← first_as number_written opened.1
   Some ((opener.0, opened.0, rows.0), rows.1)
 
 -- all that stands before the rows
@@ -162,8 +162,8 @@ front_of front = record {
   opening = opening_of front.opening;
 }
 
-abbrev pub row_of : Row → EntryRow
-row_of row = record {
+abbrev pub entry_row_from : Row → EntryRow
+entry_row_from row = record {
   key = row.key.now;
   value = row.value.now;
   unit = row.unit.now;
@@ -173,8 +173,8 @@ row_of row = record {
 }
 
 -- the version that has this front and these rows
-abbrev pub version_of : FrontValue → List EntryRow → VersionParts
-version_of front rows = record {
+abbrev pub version_parts_of : FrontValue → List EntryRow → VersionParts
+version_parts_of front rows = record {
   format = front.subject.2;
   lab = front.heading.1;
   record_number = front.heading.2;

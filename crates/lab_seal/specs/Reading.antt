@@ -18,8 +18,8 @@ number_if_spelled digits n =
     if nat_lt n (2 ^ 64) && bytes_eq (decimal n) digits then Some n else None
 
 -- the number of which these are the digits
-unfoldable pub number_of : List ℕ → Option ℕ
-number_of digits = number_if_spelled digits (digits_value 10 digits)
+unfoldable pub number_written : List ℕ → Option ℕ
+number_written digits = number_if_spelled digits (digits_value 10 digits)
 
 -- so many bytes, where a line feed follows them
 unfoldable pub line_of : ℕ → List ℕ → Option (List ℕ × List ℕ)
@@ -31,7 +31,7 @@ line_of count text =
 unfoldable pub first_item : List ℕ → Option (List ℕ × List ℕ)
 first_item text = do
   colon ← position (λ byte. byte == 58) text
-  count ← number_of (take colon text)
+  count ← number_written (take colon text)
   line_of count (drop (colon + 1) text)
 
 -- what the bytes of the item at the front stand for
@@ -59,7 +59,7 @@ which_word one other bytes =
 
 -- the number of a record, a version or a form's version
 abbrev pub ordinal_in : List ℕ → Option ℕ
-ordinal_in digits = number_of digits >>= ordinal_of
+ordinal_in digits = number_written digits >>= ordinal_of
 
 -- a note, or nothing
 abbrev pub reason_in : List ℕ → Option (Option (List ℕ))

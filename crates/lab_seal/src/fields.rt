@@ -5,7 +5,7 @@ ghost use Rattle.std.specs.Prelude.{◌≡◌, ◌==◌, ◌+◌, ◌<◌, ◌�
 ghost use Rattle.std.specs.List.{position};
 ghost use Rattle.std.specs.Str.{is_utf8};
 ghost use Rattle.lab_seal_hashes.specs.Digits.{bytes_of_digits};
-ghost use Rattle.lab_seal.specs.Reading.{number_of, line_of, first_item, first_as, text_where, this_word, which_word, ordinal_in, reason_in, moment_in};
+ghost use Rattle.lab_seal.specs.Reading.{number_written, line_of, first_item, first_as, text_where, this_word, which_word, ordinal_in, reason_in, moment_in};
 ghost use Rattle.lab_forms_texts.specs.Moment.{moment_of};
 
 use itoa::Buffer;
@@ -34,7 +34,7 @@ pub fn own_copy<R: Rule>(alloc: Global, text: &str) -> Result<Text<R>, OutOfMemo
 // Most items are shorter than a hundred bytes, so numbers of one and two digits are read
 // separately.
 pub fn value_of(digits: &[u8]) -> Option<usize>
-    ensures { result ≡ number_of digits.now }
+    ensures { result ≡ number_written digits.now }
 {
     match digits {
         [only @ b'0'..=b'9'] => Some(value_of_digit(*only)),
@@ -55,7 +55,7 @@ fn value_of_digit(digit: u8) -> usize
 }
 
 fn parsed_value_of(digits: &[u8]) -> Option<usize>
-    ensures { result ≡ number_of digits.now }
+    ensures { result ≡ number_written digits.now }
 {
     let text = str::from_utf8(digits).ok()?;
     let value = text.parse::<usize>().ok()?;
@@ -148,7 +148,7 @@ pub fn choice<'a>(text: &'a [u8], yes: &[u8], no: &[u8]) -> Option<(bool, &'a [u
 /// Reads the number of a list's elements.
 #[tactic(auto, unfolding(crate::specs::Reading::first_as))]
 pub fn count(text: &[u8]) -> Option<(usize, &[u8])>
-    ensures { option_map (λ found. (found.0, found.1.now)) result ≡ first_as number_of text.now }
+    ensures { option_map (λ found. (found.0, found.1.now)) result ≡ first_as number_written text.now }
 {
     let (digits, rest) = bytes(text)?;
     let count = value_of(digits)?;

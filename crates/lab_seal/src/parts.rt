@@ -1,7 +1,7 @@
 //! The parts of a version's text, each read from the front of the rest of the text. No call takes
 //! memory.
 ghost use Rattle.std.specs.Prelude.{◌≡◌, option_map};
-ghost use Rattle.lab_seal.specs.Parts.{first_heading, first_format, first_subject, first_no_amendment, first_amendment, first_origin, first_opening, first_front, first_row, first_rows, heading_of, subject_of, amendment_of, amends_of, opening_of, front_of, row_of};
+ghost use Rattle.lab_seal.specs.Parts.{first_heading, first_format, first_subject, first_no_amendment, first_amendment, first_origin, first_opening, first_front, first_row, first_rows, heading_of, subject_of, amendment_of, amends_of, opening_of, front_of, entry_row_from};
 
 use crate::fields;
 use lab_forms_texts::{Keys, LabCodes, Names, Notes, Ordinal, PersonCodes, Units};
@@ -178,7 +178,7 @@ fn first_opening(text: &[u8]) -> Option<(Opening<'_>, &[u8])>
 /// Reads the row at the front of a text.
 #[tactic(auto, unfolding(crate::specs::Parts::first_row))]
 pub fn first_row(text: &[u8]) -> Option<(Row<'_>, &[u8])>
-    ensures { option_map (λ found. (row_of found.0, found.1.now)) result ≡ first_row text.now }
+    ensures { option_map (λ found. (entry_row_from found.0, found.1.now)) result ≡ first_row text.now }
 {
     let Some((key, rest)) = fields::text::<Keys>(text) else {
         return None;

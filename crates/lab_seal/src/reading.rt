@@ -6,8 +6,8 @@ ghost use Rattle.lab_forms_texts.specs.Moment.{is_moment};
 ghost use Rattle.lab_forms_texts.specs.Names.{is_lab_code, is_key, is_name, is_person_code};
 ghost use Rattle.lab_forms_texts.specs.Ordinals.{is_ordinal};
 ghost use Rattle.lab_seal.specs.Faults.{TextFaultFits};
-ghost use Rattle.lab_seal_versions.specs.Versions.{version_text, IsRow, IsOrigin, IsFront, IsVersion, IsNoVersion, IsSomeVersion, OneSpelling};
-ghost use Rattle.lab_seal.specs.Parts.{first_rows, amends_of, front_of, row_of, version_of, AreAllRows};
+ghost use Rattle.lab_seal_versions.specs.Versions.{version_text, IsRow, IsOrigin, IsFrontAdmitted, IsVersion, IsNoVersion, IsSomeVersion, OneSpelling};
+ghost use Rattle.lab_seal.specs.Parts.{first_rows, amends_of, front_of, entry_row_from, version_parts_of, AreAllRows};
 
 use crate::parts::{Front, Reason, Row, after_rows, first_front, first_row};
 use crate::{BadText, TextFault, fields};
@@ -72,16 +72,16 @@ fn all_rows(alloc: Global, count: usize, text: &[u8]) -> Result<EntryRows, TextF
 
 // Adds a row, copied.
 fn push_row(alloc: Global, rows: &mut Vec<EntryRow>, row: &Row<'_>) -> Result<(), OutOfMemory>
-    requires { IsRow (row_of row.now) }
-    ensures { OnOk result (rows.new.items ≡ rows.old.items ++ row_of row.now ∷ []) }
+    requires { IsRow (entry_row_from row.now) }
+    ensures { OnOk result (rows.new.items ≡ rows.old.items ++ entry_row_from row.now ∷ []) }
 {
     rows.push(owned_row(alloc, row)?)?;
     Ok(())
 }
 
 fn owned_row(alloc: Global, row: &Row<'_>) -> Result<EntryRow, OutOfMemory>
-    requires { IsRow (row_of row.now) }
-    ensures { IfOk result (λ owned. owned ≡ row_of row.now) }
+    requires { IsRow (entry_row_from row.now) }
+    ensures { IfOk result (λ owned. owned ≡ entry_row_from row.now) }
 {
     let reason = match &row.reason {
         Some(reason) => Some(fields::own_copy(alloc, reason)?),
@@ -103,8 +103,8 @@ fn owned_parts(
     front: &Front<'_>,
     rows: EntryRows,
 ) -> Result<VersionParts, OutOfMemory>
-    requires { IsFront (version_of (front_of front.now) rows) }
-    ensures { IfOk result (λ parts. parts ≡ version_of (front_of front.now) rows) }
+    requires { IsFrontAdmitted (version_parts_of (front_of front.now) rows) }
+    ensures { IfOk result (λ parts. parts ≡ version_parts_of (front_of front.now) rows) }
 {
     let origin = owned_origin(alloc, front.heading.number, &front.amendment)?;
     let (lab, form, sample, opener) = owned_texts(alloc, front)?;

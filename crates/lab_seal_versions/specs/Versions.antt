@@ -121,7 +121,7 @@ pub record IsOpening (parts : VersionParts) : Type 0 where
   pub few : length parts.rows < 2 ^ 64
 
 -- all parts but the rows are what their types admit
-pub record IsFront (parts : VersionParts) : Type 0 where
+pub record IsFrontAdmitted (parts : VersionParts) : Type 0 where
   pub heading : IsHeading parts
   pub subject : IsSubject parts
   pub origin : IsOrigin parts.origin
@@ -143,7 +143,7 @@ pub record IsRow (row : EntryRow) : Type 0 where
 
 -- the parts of a version are what their types admit
 pub record IsVersion (parts : VersionParts) : Type 0 where
-  pub front : IsFront parts
+  pub front : IsFrontAdmitted parts
   pub rows : All IsRow parts.rows
 
 -- no version has these bytes as its text

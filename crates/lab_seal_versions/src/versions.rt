@@ -2,7 +2,7 @@
 ghost use Rattle.std.specs.Prelude.{◌≡◌, ◌++◌, ◌<◌, ◌^◌, OnOk, IfOk, All, length};
 ghost use Rattle.std.specs.List.{flat_map};
 ghost use Rattle.lab_forms_texts.specs.Ordinals.{is_ordinal};
-ghost use Rattle.lab_seal_versions.specs.Versions.{approval_text, reason_text, row_text, heading_text, subject_text, origin_text, opening_text, front_text, version_text, with_rows, format_word, IsReason, IsRow, IsHeading, IsSubject, IsOrigin, IsOpening, IsFront, IsVersion};
+ghost use Rattle.lab_seal_versions.specs.Versions.{approval_text, reason_text, row_text, heading_text, subject_text, origin_text, opening_text, front_text, version_text, with_rows, format_word, IsReason, IsRow, IsHeading, IsSubject, IsOrigin, IsOpening, IsFrontAdmitted, IsVersion};
 
 use crate::items::{push_digest, push_item, push_moment, push_number};
 use crate::{EntryRow, EntryRows, Origin};
@@ -137,7 +137,7 @@ pub fn write_with_rows(
 fn push_front(text: &mut Vec<u8>, parts: &VersionParts, rows: &EntryRows) -> Result<(), OutOfMemory>
     ensures text { OnOk result (text.new.items
         ≡ text.old.items ++ front_text (with_rows parts.now rows.now)) }
-    ensures front { IfOk result (λ _. IsFront (with_rows parts.now rows.now)) }
+    ensures front { IfOk result (λ _. IsFrontAdmitted (with_rows parts.now rows.now)) }
 {
     push_heading(text, parts)?;
     push_subject(text, parts)?;

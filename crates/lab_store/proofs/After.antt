@@ -14,7 +14,7 @@ use Rattle.lab_store_load.specs.declared.counts.Counted.{Counted}
 use Rattle.lab_store_load.specs.Counts.{IsCounted}
 use Rattle.lab_store.specs.Counting.{IsKeeping}
 use Rattle.lab_store_laws.specs.Steps.{StepsBy, AreMade, AreMadeIfAny}
-use Rattle.lab_store.specs.Commits.{Ends}
+use Rattle.lab_store.specs.Commits.{EndsStep}
 
 module _ (code : List ℕ) (changes : List Change) (old middle new : State) (ready : IsReady old) (passes : PassesBy old middle) (same : HasCleanDisk middle → IsUnchanged old middle)
     (id : ℤ) (found : HasCleanDisk middle → (lab : LabRow) × (find (has_code code) (tables_of old).labs ≡ Some lab) × (lab.id ≡ id)) where
@@ -31,7 +31,7 @@ module _ (code : List ℕ) (changes : List Change) (old middle new : State) (rea
       } in
       (it.0, inr made)
 
-  module _ {A E : Type 0} (r : Result A E) (ends : Ends (InTurn (StepsBy id) changes) r middle new) where
+  module _ {A E : Type 0} (r : Result A E) (ends : EndsStep (InTurn (StepsBy id) changes) r middle new) where
     crash_after : HasCleanDisk new → IsTrue old.is_open → (trees : Trees) → new.may_leave trees
         → old.may_leave trees ⊎ ((db : Database) × IsMadeBy (AreMadeIfAny code changes) old db × (trees ≡ db.trees))
     crash_after clean opened trees left =
@@ -44,7 +44,7 @@ module _ (code : List ℕ) (changes : List Change) (old middle new : State) (rea
     live_after : HasCleanDisk new → IsTrue new.is_open → IsTrue old.is_open
     live_after clean opened = passes.live (ends.clean clean) (ends.live clean opened)
 
-  pub ends_ok : {A B E : Type 0} (F : Type 0) (a : A) (b : B) → Ends (InTurn (StepsBy id) changes) {A = A} {E = E} (Ok a) middle new → Ends (AreMadeIfAny code changes) {A = B} {E = F} (Ok b) old new
+  pub ends_ok : {A B E : Type 0} (F : Type 0) (a : A) (b : B) → EndsStep (InTurn (StepsBy id) changes) {A = A} {E = E} (Ok a) middle new → EndsStep (AreMadeIfAny code changes) {A = B} {E = F} (Ok b) old new
   ends_ok {A} {B} {E} F a b ends = record {
     at_rest = ends.at_rest;
     clean = λ clean. passes.clean (ends.clean clean);
@@ -55,7 +55,7 @@ module _ (code : List ℕ) (changes : List Change) (old middle new : State) (rea
     shuts = shuts_on old middle new ends.clean passes.shuts ends.shuts;
   }
 
-  pub ends_err : {A E F : Type 0} (B : Type 0) (e : E) (f : F) → Ends (InTurn (StepsBy id) changes) {A = A} {E = E} (Err e) middle new → Ends (AreMadeIfAny code changes) {A = B} {E = F} (Err f) old new
+  pub ends_err : {A E F : Type 0} (B : Type 0) (e : E) (f : F) → EndsStep (InTurn (StepsBy id) changes) {A = A} {E = E} (Err e) middle new → EndsStep (AreMadeIfAny code changes) {A = B} {E = F} (Err f) old new
   ends_err {A} {E} B e f ends = record {
     at_rest = ends.at_rest;
     clean = λ clean. passes.clean (ends.clean clean);

@@ -18,7 +18,7 @@ use Rattle.lab_store_laws.proofs.DeskStays.{desk_stays_at_placing}
 use Rattle.lab_store_laws.proofs.Founded.{founded_is_placed}
 use Rattle.lab_store_laws.specs.Steps.{AreMadeIfAny}
 use Rattle.lab_store_laws.proofs.AllChanges.{rows_changed}
-use Rattle.lab_store.specs.Commits.{Ends}
+use Rattle.lab_store.specs.Commits.{EndsStep}
 use Rattle.lab_store.specs.Commits as founding
 use Rattle.lab_store.specs.Founding.{IsPlacedBy}
 
@@ -45,17 +45,17 @@ founding_law newborn t u rising well it =
 
 -- how the call ended, said of the keeper and of the changes that it was given
 pub ends_given : {S A E : Type 0} (g : Ghosts S) (code : List ℕ) (list changes : List Change) (inside self : Held S) (new : State) (r : Result A E) → list ≡ changes → inside ≡ self
-    → (IsReady (state g inside) → Ends (AreMadeIfAny code list) r (state g inside) new) → IsReady (state g self) → Ends (AreMadeIfAny code changes) r (state g self) new
+    → (IsReady (state g inside) → EndsStep (AreMadeIfAny code list) r (state g inside) new) → IsReady (state g self) → EndsStep (AreMadeIfAny code changes) r (state g self) new
 ends_given g code list changes inside self new r same is ends ready =
-    subst (λ (made : List Change). Ends (AreMadeIfAny code made) r (state g self) new) same
-    (subst (λ h. IsReady (state g h) → Ends (AreMadeIfAny code list) r (state g h) new) is ends ready)
+    subst (λ (made : List Change). EndsStep (AreMadeIfAny code made) r (state g self) new) same
+    (subst (λ h. IsReady (state g h) → EndsStep (AreMadeIfAny code list) r (state g h) new) is ends ready)
 
 -- a founding ends as changes do
-pub as_committed : {A E : Type 0} (step : Tables → Tables → Type 0) (r : Result A E) (old new : State) → founding.Ends step r old new → Ends step r old new
+pub as_committed : {A E : Type 0} (step : Tables → Tables → Type 0) (r : Result A E) (old new : State) → founding.EndsStep step r old new → EndsStep step r old new
 as_committed step r old new it = record { at_rest = it.at_rest; clean = it.clean; live = it.live; made = it.made; rows = it.rows; crash = it.crash; shuts = it.shuts }
 
 -- and said of the keeper
 pub founding_given : {S A E : Type 0} (g : Ghosts S) (newborn : Newborn) (inside self : Held S) (new : State) (r : Result A E) → inside ≡ self
-    → (IsReady (state g inside) → founding.Ends (IsPlacedBy newborn) r (state g inside) new) → IsReady (state g self) → Ends (IsPlacedBy newborn) r (state g self) new
+    → (IsReady (state g inside) → founding.EndsStep (IsPlacedBy newborn) r (state g inside) new) → IsReady (state g self) → EndsStep (IsPlacedBy newborn) r (state g self) new
 founding_given g newborn inside self new r is ends ready =
-    as_committed (IsPlacedBy newborn) r (state g self) new (subst (λ h. IsReady (state g h) → founding.Ends (IsPlacedBy newborn) r (state g h) new) is ends ready)
+    as_committed (IsPlacedBy newborn) r (state g self) new (subst (λ h. IsReady (state g h) → founding.EndsStep (IsPlacedBy newborn) r (state g h) new) is ends ready)

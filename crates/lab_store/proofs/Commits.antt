@@ -13,7 +13,7 @@ use Rattle.lab_store_tables.specs.Ready.{IsAtRest, IsMadeBy}
 use Rattle.lab_store_tables.proofs.Shutting.{shuts_by, shuts_on}
 use Rattle.lab_store_write.specs.Calls.{Steps}
 use Rattle.lab_store_write.proofs.Inside.{none_then}
-use Rattle.lab_store.specs.Commits.{Ends}
+use Rattle.lab_store.specs.Commits.{EndsStep}
 
 module _ {S : Type 0} (g : Ghosts S) (old begun last : Held S) (end : State) (step : Tables → Tables → Type 0)
     (rest : IsAtRest (state g old)) (is : begun ≡ record old { in_transaction = true }) (alone : end.in_transaction ≡ false)
@@ -43,7 +43,7 @@ module _ {S : Type 0} (g : Ghosts S) (old begun last : Held S) (end : State) (st
     late : HasCleanDisk end → HasCleanDisk (state g last)
     late clean = omega (arith, three.clean)
 
-    pub given_up : {A E : Type 0} (fault : E) → Ends step {A = A} {E = E} (Err fault) (state g old) end
+    pub given_up : {A E : Type 0} (fault : E) → EndsStep step {A = A} {E = E} (Err fault) (state g old) end
     given_up fault = record {
       at_rest = record { alone = alone; settled = λ clean opened. (undone_rows (late clean) (undone clean) opened).1 };
       clean = λ clean. clean_old (late clean);
@@ -74,7 +74,7 @@ module _ {S : Type 0} (g : Ghosts S) (old begun last : Held S) (end : State) (st
       open_old : HasCleanDisk end → IsTrue (state g old).is_open
       open_old clean = (committed_last (late_clean clean)).was_open (ok clean).was_open
 
-      pub committed : {A E : Type 0} (value : A) → Ends step {A = A} {E = E} (Ok value) (state g old) end
+      pub committed : {A E : Type 0} (value : A) → EndsStep step {A = A} {E = E} (Ok value) (state g old) end
       committed value = record {
         at_rest = record { alone = alone; settled = λ clean opened. (ok clean).now_is ∙ sym (ok clean).committed_is };
         clean = λ clean. clean_old (late_clean clean);
@@ -91,7 +91,7 @@ module _ {S : Type 0} (g : Ghosts S) (old begun last : Held S) (end : State) (st
       back clean (inl fails) = fails.3
       back clean (inr late) = absurd (let mode = inside (late_clean clean) in let off = late.1 in cc)
 
-      pub failed : {A E : Type 0} (fault : E) → Ends step {A = A} {E = E} (Err fault) (state g old) end
+      pub failed : {A E : Type 0} (fault : E) → EndsStep step {A = A} {E = E} (Err fault) (state g old) end
       failed fault = record {
         at_rest = record { alone = alone; settled = λ clean opened. (undone_rows (late_clean clean) (back clean (err clean)) opened).1 };
         clean = λ clean. clean_old (late_clean clean);
@@ -104,6 +104,6 @@ module _ {S : Type 0} (g : Ghosts S) (old begun last : Held S) (end : State) (st
 
     -- whichever of the two
     pub ends_by : {A : Type 0} (r : Result A Error) → (HasCleanDisk end → OnOk r (Shows (state g last) end (state g last).now (state g last).now false))
-        → (HasCleanDisk end → IfErr r (FailsToCommit (state g last) end)) → Ends step r (state g old) end
+        → (HasCleanDisk end → IfErr r (FailsToCommit (state g last) end)) → EndsStep step r (state g old) end
     ends_by (Ok value) ok err = committed ok value
     ends_by (Err e) ok err = failed e err e

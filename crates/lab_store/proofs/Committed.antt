@@ -9,7 +9,7 @@ use Rattle.lab_store_tables.specs.Meaning.{meaning}
 use Rattle.lab_store_tables.specs.WellKept.{IsWellKept}
 use Rattle.lab_store_tables.specs.Held.{AreRising}
 use Rattle.lab_store_tables.specs.Ready.{IsKept, IsReady, IsMadeBy, tables_of}
-use Rattle.lab_store.specs.Commits.{Ends}
+use Rattle.lab_store.specs.Commits.{EndsStep}
 use Rattle.lab_store.specs.StoreWorlds.{world_of}
 use Rattle.lab_store.proofs.StoreWorldWords.{SameRows}
 
@@ -24,7 +24,7 @@ module _ (step : Tables → Tables → Type 0) (Means : Meaning → Meaning → 
         let rows = law (tables_in db.trees) kept.typed.rising kept.rows it.1 in
         (rows.0, record { typed = it.0; rows = rows.1 })
 
-    module _ {A E : Type 0} (r : Result A E) (ends : Ends step r old new) where
+    module _ {A E : Type 0} (r : Result A E) (ends : EndsStep step r old new) where
       left : HasCleanDisk new → IsTrue old.is_open → (trees : Trees) → new.may_leave trees
           → old.may_leave trees ⊎ ((db : Database) × Means (meaning (tables_of old)) (meaning (tables_in db.trees)) × IsKept db × (trees ≡ db.trees))
       left clean opened trees may = elim (ends.crash clean opened trees may) [
@@ -44,34 +44,34 @@ module _ (step : Tables → Tables → Type 0) (Means : Meaning → Meaning → 
         | inr made ↦ (made.0, made.2, made.3)
       ]
 
-    pub made_means : {A E : Type 0} (r : Result A E) → Ends step r old new → HasCleanDisk new → OnOk r (Means (meaning (tables_of old)) (meaning (tables_of new)))
+    pub made_means : {A E : Type 0} (r : Result A E) → EndsStep step r old new → HasCleanDisk new → OnOk r (Means (meaning (tables_of old)) (meaning (tables_of new)))
     made_means (Ok a) ends clean = let did = ends.made clean in (made_db new.now (ends.clean clean) did.0 did.2).0
     made_means (Err e) ends clean = tt
 
-    pub reached : {A E : Type 0} (r : Result A E) → Ends step r old new → IsReady new
+    pub reached : {A E : Type 0} (r : Result A E) → EndsStep step r old new → IsReady new
     reached (Ok a) ends = record { at_rest = ends.at_rest; kept = λ clean opened. let did = ends.made clean in (made_db new.now (ends.clean clean) did.0 did.2).1 }
     reached (Err e) ends = record {
       at_rest = ends.at_rest;
       kept = λ clean opened. subst IsKept (sym (ends.rows clean opened)) (ready.kept (ends.clean clean) (ends.live clean opened));
     }
 
-  pub moved : {A E : Type 0} (r : Result A E) → Ends step r old new → HasCleanDisk new → OnOk r (step (tables_of old) (tables_of new))
+  pub moved : {A E : Type 0} (r : Result A E) → EndsStep step r old new → HasCleanDisk new → OnOk r (step (tables_of old) (tables_of new))
   moved (Ok a) ends clean = let did = ends.made clean in (did.2 (ready.kept (ends.clean clean) did.0).typed).1
   moved (Err e) ends clean = tt
 
-  pub left_rows : {A E : Type 0} (r : Result A E) → Ends step r old new → HasCleanDisk new → OnErr r (IsTrue new.is_open → SameRows old new)
+  pub left_rows : {A E : Type 0} (r : Result A E) → EndsStep step r old new → HasCleanDisk new → OnErr r (IsTrue new.is_open → SameRows old new)
   left_rows (Ok a) ends clean = tt
   left_rows (Err e) ends clean = λ opened. ap (λ (db : Database). tables_in db.trees) (ends.rows clean opened)
 
-  pub left_meaning : {A E : Type 0} (r : Result A E) → Ends step r old new → HasCleanDisk new → OnErr r (Leaves (world_of old) (world_of new))
+  pub left_meaning : {A E : Type 0} (r : Result A E) → EndsStep step r old new → HasCleanDisk new → OnErr r (Leaves (world_of old) (world_of new))
   left_meaning (Ok a) ends clean = tt
   left_meaning (Err e) ends clean = λ opened other. ap (λ (db : Database). meaning (tables_in db.trees) other) (ends.rows clean opened)
 
-  pub lives : {A E : Type 0} (r : Result A E) → Ends step r old new → HasCleanDisk new → OnOk r (Lives (world_of old) (world_of new))
+  pub lives : {A E : Type 0} (r : Result A E) → EndsStep step r old new → HasCleanDisk new → OnOk r (Lives (world_of old) (world_of new))
   lives (Ok a) ends clean = let did = ends.made clean in (did.0, did.1)
   lives (Err e) ends clean = tt
 
-  pub reached_err : {A E : Type 0} (r : Result A E) → Ends step r old new → OnErr r (IsReady new)
+  pub reached_err : {A E : Type 0} (r : Result A E) → EndsStep step r old new → OnErr r (IsReady new)
   reached_err (Ok a) ends = tt
   reached_err (Err e) ends = record {
     at_rest = ends.at_rest;
@@ -79,6 +79,6 @@ module _ (step : Tables → Tables → Type 0) (Means : Meaning → Meaning → 
   }
 
 -- what is so while the connection is open is so where the call ended well
-pub on_lives : (step : Tables → Tables → Type 0) (old new : State) {A E P : Type 0} (r : Result A E) → Ends step r old new → HasCleanDisk new → (IsTrue new.is_open → P) → OnOk r P
+pub on_lives : (step : Tables → Tables → Type 0) (old new : State) {A E P : Type 0} (r : Result A E) → EndsStep step r old new → HasCleanDisk new → (IsTrue new.is_open → P) → OnOk r P
 on_lives step old new (Ok a) ends clean p = p (ends.made clean).1
 on_lives step old new (Err e) ends clean p = tt

@@ -9,7 +9,7 @@ use Rattle.lab_store_tables.specs.Meaning.{has_code}
 use Rattle.lab_store_tables.specs.Ready.{IsReady, PassesBy, IsMadeBy, tables_of}
 use Rattle.lab_store_tables.proofs.Shutting.{shuts_on}
 use Rattle.lab_store_read_records.specs.Shown.{lab_shown, labs_shown}
-use Rattle.lab_store.specs.Commits.{Ends}
+use Rattle.lab_store.specs.Commits.{EndsStep}
 
 -- a laboratory is there where a row is shown
 pub shown_some : (t : Tables) (code : List ℕ) → is_some (slice_get (labs_shown t code) 0) ≡ is_some (find (has_code code) t.labs)
@@ -22,7 +22,7 @@ shown_some t code = go (filter (has_code code) t.labs) ∙ ap is_some (slice_get
 -- a call that was given up after it had passed by
 pub refused : {A E : Type 0} (step : Tables → Tables → Type 0) (fault : E) (old new : State) → IsReady old → PassesBy old new
     → (HasCleanDisk new → KeepsCommit old new)
-    → Ends step {A = A} {E = E} (Err fault) old new
+    → EndsStep step {A = A} {E = E} (Err fault) old new
 refused step fault old new ready passed kept = record {
   at_rest = passed.at_rest ready.at_rest;
   clean = passed.clean;
@@ -56,7 +56,7 @@ rows_after (Err fault) old mid new same it = it ∙ same
 -- a call that commits, after one that passed by
 pub ends_after : {A E : Type 0} (first second : Tables → Tables → Type 0) (r : Result A E) (old mid new : State) → IsReady old → PassesBy old mid
     → (HasCleanDisk mid → IsUnchanged old mid)
-    → (HasCleanDisk mid → (t : Tables) → first (tables_of old) t → second (tables_of old) t) → Ends first r mid new → Ends second r old new
+    → (HasCleanDisk mid → (t : Tables) → first (tables_of old) t → second (tables_of old) t) → EndsStep first r mid new → EndsStep second r old new
 ends_after first second r old mid new ready passed same weaker ends = record {
   at_rest = ends.at_rest;
   clean = λ clean. passed.clean (ends.clean clean);

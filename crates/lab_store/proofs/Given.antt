@@ -3,7 +3,7 @@ use Rattle.std.proofs.Common.{◌≡◌, IsTrue, ap}
 use Rattle.sqlite_trees.specs.declared.store.Store.{Ghosts}
 use Rattle.sqlite_trees.specs.Tree.{Trees}
 use Rattle.sqlite.specs.Held.{Held, state}
-use Rattle.lab_records_copy_out.specs.Resting.{IsRead}
+use Rattle.lab_records_copy_out.specs.Resting.{IsOnlyRead}
 use Rattle.lab_store_tables.specs.Rows.{Tables}
 use Rattle.lab_store_tables.specs.Meaning.{meaning}
 use Rattle.lab_store_tables.specs.Ready.{PassesBy}
@@ -13,7 +13,7 @@ use Rattle.lab_store.proofs.Turns.{world_passes, quiet_by, safe_by}
 
 module _ {S : Type 0} (g : Ghosts S) (stays : (s : S) → IsTrue (g.view s).is_open → g.recovers s (g.view s).committed)
     (settled : (s : S) (db : Trees) → IsTrue (g.view s).is_open → g.recovers s db → db ≡ (g.view s).committed) where
-  pub read_by : (old new : Held S) → PassesBy (state g old) (state g new) → IsRead (store_world g) (store_rests g) old new
+  pub read_by : (old new : Held S) → PassesBy (state g old) (state g new) → IsOnlyRead (store_world g) (store_rests g) old new
   read_by old new passes = record {
     same = λ clean ready opened other. ap (λ (t : Tables). meaning t other) (rows_stay g stays settled old new ready passes clean opened);
     rested = λ clean ready opened. rows_stay g stays settled old new ready passes clean opened;

@@ -6,11 +6,11 @@ use Rattle.lab_store_tables.specs.Rows.{Tables}
 use Rattle.lab_store_tables.specs.Held.{IsTyped}
 use Rattle.lab_store_tables.specs.Ready.{IsAtRest}
 use Rattle.lab_store_tables.proofs.Shutting.{shuts_none}
-use Rattle.lab_store.specs.Commits.{Ends}
+use Rattle.lab_store.specs.Commits.{EndsStep}
 
 -- whatever was to be made, a call that failed and left the connection as it was has ended so
 pub known_failed : {E : Type 0} (step : Tables → Tables → Type 0) (fault : E) (s : State) → IsAtRest s
-    → Ends step {A = Unit {0}} {E = E} (Err fault) s s
+    → EndsStep step {A = Unit {0}} {E = E} (Err fault) s s
 known_failed step fault s rest = record {
   at_rest = rest;
   clean = λ clean. clean;
@@ -23,15 +23,15 @@ known_failed step fault s rest = record {
 
 -- none that made its step has ended so on a connection that was shut
 pub known_shut : {E : Type 0} (step : Tables → Tables → Type 0) (s new : State) → HasCleanDisk new → (IsTrue s.is_open → ⊥)
-    → Ends step {A = Unit {0}} {E = E} (Ok tt) s new → ⊥
+    → EndsStep step {A = Unit {0}} {E = E} (Ok tt) s new → ⊥
 known_shut step s new clean shut ends = shut (ends.made clean).0
 
 -- and none that failed and whose rows another connection shows
 pub known_changed : {E : Type 0} (step : Tables → Tables → Type 0) (fault : E) (old new : State) → HasCleanDisk new
-    → IsTrue new.is_open → (new.now ≡ old.now → ⊥) → Ends step {A = Unit {0}} {E = E} (Err fault) old new → ⊥
+    → IsTrue new.is_open → (new.now ≡ old.now → ⊥) → EndsStep step {A = Unit {0}} {E = E} (Err fault) old new → ⊥
 known_changed step fault old new clean live changed ends = changed (ends.rows clean live)
 
 -- a step that is never made isn't made of tables of ours
 pub known_never : {E : Type 0} (old new : State) → HasCleanDisk new → IsTyped old.now
-    → Ends (λ (before after : Tables). ⊥) {A = Unit {0}} {E = E} (Ok tt) old new → ⊥
+    → EndsStep (λ (before after : Tables). ⊥) {A = Unit {0}} {E = E} (Ok tt) old new → ⊥
 known_never old new clean typed ends = ((ends.made clean).2 typed).1

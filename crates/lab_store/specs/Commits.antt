@@ -7,7 +7,7 @@ use Rattle.lab_store_tables.specs.Rows.{Tables}
 use Rattle.lab_store_tables.specs.Ready.{IsAtRest, WhereShown, IsMadeBy, Shuts}
 
 -- by a step of the tables: what is kept, what a crash may leave, and what a failure leaves
-pub record Ends (step : Tables → Tables → Type 0) {A E : Type 0} (result : Result A E)
+pub record EndsStep (step : Tables → Tables → Type 0) {A E : Type 0} (result : Result A E)
     (old new : State) : Type 0 where
   pub at_rest : IsAtRest new
   pub clean : HasCleanDisk new → HasCleanDisk old

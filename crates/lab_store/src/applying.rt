@@ -8,7 +8,7 @@ ghost use Rattle.lab_store_tables.specs.Changes.{InTurn};
 ghost use Rattle.lab_store_tables.specs.Ready.{IsAtRest, IsReady, LeavesNoMore};
 ghost use Rattle.lab_store_laws.specs.Steps.{StepsBy, AreMadeIfAny};
 ghost use Rattle.lab_store_write.specs.Calls.{Steps};
-ghost use Rattle.lab_store.specs.Commits.{Ends};
+ghost use Rattle.lab_store.specs.Commits.{EndsStep};
 ghost use Rattle.lab_store.specs.Counting.{IsKeeping};
 
 use crate::inside::Inside;
@@ -55,7 +55,7 @@ fn commit_all<S: Alter>(
     changes: &[Change],
 ) -> Result<(), Error>
     requires at_rest { IsAtRest (state S.Store conn.old) }
-    ensures ends { Ends (InTurn (StepsBy lab.id) changes.now) result
+    ensures ends { EndsStep (InTurn (StepsBy lab.id) changes.now) result
         (state S.Store conn.old) (state S.Store conn.new) }
 {
     let _rules = conn.schema();
@@ -86,7 +86,7 @@ pub fn apply<S: Alter>(
         IsTrue (state S.Store tables.new.conn).is_open →
         IsTrue (state S.Store tables.old.conn).is_open }
     ensures ends { IsReady (state S.Store tables.old.conn) →
-        Ends (AreMadeIfAny code.now changes.now) result
+        EndsStep (AreMadeIfAny code.now changes.now) result
         (state S.Store tables.old.conn) (state S.Store tables.new.conn) }
     ensures quiet { changes.now ≡ [] → IsReady (state S.Store tables.old.conn) →
         LeavesNoMore (state S.Store tables.old.conn) (state S.Store tables.new.conn) }

@@ -5,7 +5,7 @@ ghost use Rattle.sqlite.specs.Held.{state};
 ghost use Rattle.sqlite.specs.State.{HasCleanDisk};
 ghost use Rattle.lab_records_keeper.specs.declared.faults.PlacingFault.TheVariants.{LabExists};
 ghost use Rattle.lab_store_tables.specs.Ready.{IsAtRest, IsReady};
-ghost use Rattle.lab_store.specs.Commits.{Ends};
+ghost use Rattle.lab_store.specs.Commits.{EndsStep};
 ghost use Rattle.lab_store.specs.Founding.{IsPlacedBy, IsTaken};
 
 use crate::places::{is_there, place};
@@ -35,7 +35,7 @@ pub fn found<S: Alter>(
     ensures live { HasCleanDisk (state S.Store tables.new.conn) →
         IsTrue (state S.Store tables.new.conn).is_open →
         IsTrue (state S.Store tables.old.conn).is_open }
-    ensures ends { IsReady (state S.Store tables.old.conn) → Ends (IsPlacedBy newborn) result
+    ensures ends { IsReady (state S.Store tables.old.conn) → EndsStep (IsPlacedBy newborn) result
         (state S.Store tables.old.conn) (state S.Store tables.new.conn) }
     ensures exists { result ≡ Err LabExists → IsReady (state S.Store tables.old.conn) →
         IsTaken newborn.code (state S.Store tables.old.conn) (state S.Store tables.new.conn) }

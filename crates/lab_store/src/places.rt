@@ -8,7 +8,7 @@ ghost use Rattle.lab_store_tables.specs.Meaning.{has_code};
 ghost use Rattle.lab_store_tables.specs.Ready.{IsAtRest};
 ghost use Rattle.lab_store_read.specs.Reads.{Reads};
 ghost use Rattle.lab_store_write.specs.Calls.{Steps};
-ghost use Rattle.lab_store.specs.Commits.{Ends};
+ghost use Rattle.lab_store.specs.Commits.{EndsStep};
 ghost use Rattle.lab_store_write_changes.specs.NewbornRows.{AddsRows};
 
 use crate::inside::Inside;
@@ -72,7 +72,7 @@ fn add_inside<S: Alter>(tx: &mut Transaction<'_, S>, lab: &Lab) -> Result<(), Er
 // Adds the rows of the laboratory in one transaction.
 fn commit_rows<S: Alter>(conn: &mut Connection<S>, lab: &Lab) -> Result<(), Error>
     requires at_rest { IsAtRest (state S.Store conn.old) }
-    ensures ends { Ends (AddsRows lab.now) result
+    ensures ends { EndsStep (AddsRows lab.now) result
         (state S.Store conn.old) (state S.Store conn.new) }
 {
     let mut tx = conn.transaction();
@@ -83,7 +83,7 @@ fn commit_rows<S: Alter>(conn: &mut Connection<S>, lab: &Lab) -> Result<(), Erro
 /// Adds the rows of the laboratory in one commit.
 pub(crate) fn place<S: Alter>(conn: &mut Connection<S>, lab: &Lab) -> Result<(), PlacingFault>
     requires at_rest { IsAtRest (state S.Store conn.old) }
-    ensures ends { Ends (AddsRows lab.now) result
+    ensures ends { EndsStep (AddsRows lab.now) result
         (state S.Store conn.old) (state S.Store conn.new) }
     ensures fault { IfErr result (λ fault. fault ≢ LabExists) }
 {

@@ -15,7 +15,7 @@ ghost use Rattle.lab_store_read_copies.specs.Causes.{CopyHasItsCause, HasRange};
 ghost use Rattle.lab_store_tables.specs.Meaning.{meaning};
 ghost use Rattle.lab_store_tables.specs.Ready.{IsAtRest};
 ghost use Rattle.lab_records_copy_out.specs.Faults.{CopyFaultFits};
-ghost use Rattle.lab_records_copy_out.specs.Resting.{IsRead};
+ghost use Rattle.lab_records_copy_out.specs.Resting.{IsOnlyRead};
 ghost use Rattle.lab_records_copy_out.specs.Walks.{record_rows, walked_to};
 
 use crate::{Tables, apply, found};
@@ -138,7 +138,7 @@ impl<S: Alter> Store<S> {
             (OnOk result (Lives (store_world S.Store self.old) (store_world S.Store self.new))) }
         ensures cause { CopyHasItsCause (λ t. HasRange t lab.now from last)
             (state S.Store self.old) (state S.Store self.new) result }
-        ensures read { IsRead (store_world S.Store) (store_rests S.Store) self.old self.new }
+        ensures read { IsOnlyRead (store_world S.Store) (store_rests S.Store) self.old self.new }
     {
         self.counted = None;
         give_records_at(

@@ -11,7 +11,7 @@ use Rattle.sqlite.proofs.Callers.{survives_begin}
 use Rattle.sqlite.proofs.StateLemmas.{survives_then}
 use Rattle.sqlite_value.specs.Order.{Row}
 use Rattle.lab_store_tables.specs.Ready.{IsAtRest, WhereShown}
-use Rattle.lab_store_files.specs.NewFiles.{IsBlank, IsNewFile, Ends}
+use Rattle.lab_store_files.specs.NewFiles.{IsBlank, IsNewFile, EndsNewFile}
 
 pub keeps_then : (a b c : State) → KeepsCommit a b → KeepsCommit b c → KeepsCommit a c
 keeps_then a b c p q = record { was_open = λ opened. p.was_open (q.was_open opened); committed = λ opened. q.committed opened ∙ p.committed (q.was_open opened) }
@@ -62,7 +62,7 @@ module _ {S : Type 0} (g : Ghosts S) (old begun last : Held S) (end : State)
     late : HasCleanDisk end → HasCleanDisk (state g last)
     late clean = omega (arith, three.clean)
 
-    pub given_up_ends : Ends (state g old) end
+    pub given_up_ends : EndsNewFile (state g old) end
     given_up_ends = record {
       at_rest = record { alone = alone; settled = λ clean opened. (undone_rows (late clean) (undone clean) opened).1 };
       clean = λ clean. clean_old (late clean);
@@ -92,7 +92,7 @@ module _ {S : Type 0} (g : Ghosts S) (old begun last : Held S) (end : State)
       pub committed_made : HasCleanDisk end → IsBlank (state g old).now → IsTrue end.is_open × IsNewFile end.now
       committed_made clean blank = ((ok clean).is_open, subst IsNewFile (sym (ok clean).now_is) (made_last (late_clean clean) blank))
 
-      pub committed_ends : Ends (state g old) end
+      pub committed_ends : EndsNewFile (state g old) end
       committed_ends = record {
         at_rest = record { alone = alone; settled = λ clean opened. (ok clean).now_is ∙ sym (ok clean).committed_is };
         clean = λ clean. clean_old (late_clean clean);
@@ -104,7 +104,7 @@ module _ {S : Type 0} (g : Ghosts S) (old begun last : Held S) (end : State)
       back clean (inl fails) = fails.3
       back clean (inr late) = absurd (let mode = inside (late_clean clean) in let off = late.1 in cc)
 
-      pub failed_ends : Ends (state g old) end
+      pub failed_ends : EndsNewFile (state g old) end
       failed_ends = record {
         at_rest = record { alone = alone; settled = λ clean opened. (undone_rows (late_clean clean) (back clean (err clean)) opened).1 };
         clean = λ clean. clean_old (late_clean clean);
@@ -115,5 +115,5 @@ module _ {S : Type 0} (g : Ghosts S) (old begun last : Held S) (end : State)
       failed_rows clean opened = (undone_rows (late_clean clean) (back clean (err clean)) opened).0
 
 -- a call that did nothing
-pub none_ends : (s : State) → IsAtRest s → Ends s s
+pub none_ends : (s : State) → IsAtRest s → EndsNewFile s s
 none_ends s rest = record { at_rest = rest; clean = λ clean. clean; crash = λ clean opened trees left. inl left }

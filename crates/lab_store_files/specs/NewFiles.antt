@@ -67,5 +67,5 @@ IsNewFile db = Holds db new_tables
 
 -- a call that makes a file, however it ends: a crash leaves what it could leave before or, where
 -- the file was empty, a new file
-abbrev pub Ends : State → State → Type 0
-Ends old new = CommitsOnce (λ db. IsBlank old.now → IsNewFile db) old new
+abbrev pub EndsNewFile : State → State → Type 0
+EndsNewFile old new = CommitsOnce (λ db. IsBlank old.now → IsNewFile db) old new

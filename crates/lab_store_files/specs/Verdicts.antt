@@ -60,5 +60,5 @@ IsVerdict old new answer =
     ⊎ ((rows : List Row) × Shown number_query [] old new rows
     × (answer ≡ file_verdict old.now.schema rows))
 
-abbrev pub Answers : State → State → Result (Unit {0}) FileFault → Type 0
-Answers old new answer = IsVerdict old new answer ⊎ FailedInStore answer
+abbrev pub AnswersVerdict : State → State → Result (Unit {0}) FileFault → Type 0
+AnswersVerdict old new answer = IsVerdict old new answer ⊎ FailedInStore answer

@@ -9,7 +9,7 @@ ghost use Rattle.lab_store_tables.specs.Ready.{IsAtRest, IsReady, WhereShown, ta
 ghost use Rattle.lab_store_files.specs.declared.faults.FileFault.TheVariants.{NotEmpty, Storage, Memory};
 ghost use Rattle.lab_store_files.specs.Schemas as spec;
 ghost use Rattle.lab_store_files.specs.Tables.{all_tables};
-ghost use Rattle.lab_store_files.specs.NewFiles.{schema_of, schema_before, schema_with, IsEmptyUnder, IsBlank, IsNewFile, Ends};
+ghost use Rattle.lab_store_files.specs.NewFiles.{schema_of, schema_before, schema_with, IsEmptyUnder, IsBlank, IsNewFile, EndsNewFile};
 
 use crate::faults::FileFault;
 use crate::schemas::is_taken;
@@ -139,7 +139,7 @@ fn make_file<S: Alter>(conn: &mut Connection<S>) -> Result<(), Error>
         × IsNewFile (state S.Store conn.new).now) }
     ensures rows { WhereShown (state S.Store conn.new)
         (OnErr result ((state S.Store conn.new).now ≡ (state S.Store conn.old).now)) }
-    ensures ends { Ends (state S.Store conn.old) (state S.Store conn.new) }
+    ensures ends { EndsNewFile (state S.Store conn.old) (state S.Store conn.new) }
 {
     let mut tx = conn.transaction();
     make_all(&mut tx)?;
@@ -174,7 +174,7 @@ pub fn create<S: Alter>(conn: &mut Connection<S>) -> Result<(), FileFault>
         (λ fault. (fault ≡ NotEmpty) ⊎ ((fault ≡ Storage) ⊎ (fault ≡ Memory))) }
     ensures rows { WhereShown (state S.Store conn.new)
         (OnErr result ((state S.Store conn.new).now ≡ (state S.Store conn.old).now)) }
-    ensures ends { Ends (state S.Store conn.old) (state S.Store conn.new) }
+    ensures ends { EndsNewFile (state S.Store conn.old) (state S.Store conn.new) }
 {
     if is_taken(conn.schema()) {
         return Err(FileFault::NotEmpty);

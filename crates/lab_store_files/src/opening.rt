@@ -6,7 +6,7 @@ ghost use Rattle.sqlite.specs.Held.{state};
 ghost use Rattle.sqlite.specs.State.{HasCleanDisk, IsUnchanged, Shown};
 ghost use Rattle.lab_store_tables.specs.Ready.{IsAtRest, IsKept, LeavesNoMore, PassesBy, WhereShown};
 ghost use Rattle.lab_store_files.specs.Faults.{FailedInStore};
-ghost use Rattle.lab_store_files.specs.Verdicts.{integer_in, number_query, number_shown, number_verdict, file_verdict, Answers};
+ghost use Rattle.lab_store_files.specs.Verdicts.{integer_in, number_query, number_shown, number_verdict, file_verdict, AnswersVerdict};
 
 use crate::faults::FileFault;
 use crate::schemas::{has_number, is_whole};
@@ -94,7 +94,7 @@ fn number_rows<S: Alter>(conn: &mut Connection<S>) -> Result<Vec<Row>, Error>
 pub fn open<S: Alter>(conn: &mut Connection<S>) -> Result<(), FileFault>
     // The answer is the verdict on the file, unless the store failed first:
     ensures answer { HasCleanDisk (state S.Store conn.new) →
-        Answers (state S.Store conn.old) (state S.Store conn.new) result }
+        AnswersVerdict (state S.Store conn.old) (state S.Store conn.new) result }
     // A file of ours is never refused as a foreign one:
     ensures ours { HasCleanDisk (state S.Store conn.new) →
         WhereShown (state S.Store conn.old) (IsKept (state S.Store conn.old).now →

@@ -11,7 +11,7 @@ use Rattle.lab_records_kept.specs.declared.labs.Lab.{Lab}
 use Rattle.lab_records_kept.specs.declared.trails.TrailRow.{TrailRow as Told}
 use Rattle.lab_records_kept.specs.declared.trails.Deed.TheVariants.{Found}
 use Rattle.lab_records_kept.specs.Births.{newborn_lab}
-use Rattle.lab_records_kept.specs.Trails.{row_of}
+use Rattle.lab_records_kept.specs.Trails.{trail_row_of}
 use Rattle.lab_records_keeper.specs.Worlds.{Places}
 use Rattle.lab_store_tables.specs.Rows.{Tables, trail_id}
 use Rattle.lab_store_tables.specs.Meaning.{meaning}
@@ -47,7 +47,7 @@ module _ (newborn : Newborn) (old new : Tables) (nobody : AreUnasked (newborn_la
 
   -- the row that tells of the founding
   abbrev told : Told
-  told = row_of 1 newborn.moment None (Found newborn.code)
+  told = trail_row_of 1 newborn.moment None (Found newborn.code)
 
   abbrev begun : Tables
   begun = put_lab (lab_row_of it.id lab) old

@@ -14,7 +14,7 @@ use Rattle.lab_records_kept.specs.declared.trails.TrailRow.{TrailRow as Told}
 use Rattle.lab_records_kept.specs.Trails.{action_word}
 use Rattle.lab_store_tables.specs.Rows.{LabRow, PersonRow, SessionRow, RecordRow, TrailRow, Tables, lab_id, person_id, trail_id}
 use Rattle.lab_store_tables.specs.Columns.{roles_sum, password_columns, ask_columns}
-use Rattle.lab_store_tables.specs.WellKept.{are_ids_unique, are_keys_unique, are_arrows_whole, is_of_lab, is_asked_within, is_told_within, are_labs_apart, are_numbered, are_all_numbered, has_counted, is_said_alike, is_whole_ask, are_columns_whole, IsPersonSpelled, IsTrailSpelled, AreWellKept}
+use Rattle.lab_store_tables.specs.WellKept.{are_ids_unique, are_keys_unique, are_arrows_whole, is_of_lab, is_asked_within, is_told_within, are_labs_apart, are_numbered_beside, are_all_numbered, has_counted, is_said_alike, is_whole_ask, are_columns_whole, IsPersonSpelled, IsTrailSpelled, AreWellKept}
 use Rattle.lab_store_tables.specs.Placing.{lab_row_of}
 use Rattle.lab_store_tables.specs.Held.{AreRising}
 use Rattle.lab_store_laws.proofs.ColumnsBack.{roles_back, password_back, action_back}
@@ -90,7 +90,7 @@ module _ (t : Tables) (rising : AreRising t) (well : AreWellKept t) (lab : Lab) 
       t.trail (none_led (λ (one : TrailRow). one.lab) lab_id t.labs id t.trail it.free led.trail_lab)
       (all_from_test (lies t.trail) t.trail (and_parts _ _ well.numbered).1)
 
-  trail_numbered : are_numbered (λ (one other : TrailRow). int_eq other.lab one.lab) (λ (one : TrailRow). one.number) after.trail ≡ true
+  trail_numbered : are_numbered_beside (λ (one other : TrailRow). int_eq other.lab one.lab) (λ (one : TrailRow). one.number) after.trail ≡ true
   trail_numbered =
       test_from_all (lies after.trail) after.trail (all-insert_by trail_id (λ one. lies after.trail one ≡ true) t.trail new_told lies_first lie_others)
 

@@ -7,7 +7,7 @@ use Rattle.lab_records_kept.specs.declared.labs.Lab.{Lab}
 use Rattle.lab_records_kept.specs.declared.trails.TrailRow.{TrailRow as Told}
 use Rattle.lab_records_kept.specs.declared.trails.Deed.TheVariants.{Found}
 use Rattle.lab_records_kept.specs.Births.{newborn_lab}
-use Rattle.lab_records_kept.specs.Trails.{row_of}
+use Rattle.lab_records_kept.specs.Trails.{trail_row_of}
 use Rattle.lab_store_tables.specs.Rows.{LabRow, PersonRow, SessionRow, RecordRow, TrailRow, Tables, lab_id, person_id}
 use Rattle.lab_store_tables.specs.WellKept.{have_own_ids, has_counted, AreWellKept}
 use Rattle.lab_store_tables.specs.Family.{Labs}
@@ -86,7 +86,7 @@ module _ (old new : Tables) (well : AreWellKept old) (newborn : Newborn) (it : P
   started = put_lab (lab_row_of it.id (newborn_lab newborn)) old
 
   abbrev first_told : Told
-  first_told = row_of 1 newborn.moment None (Found newborn.code)
+  first_told = trail_row_of 1 newborn.moment None (Found newborn.code)
 
   enrolled_kept : ArePersonsOwn it.enrolled
   enrolled_kept =

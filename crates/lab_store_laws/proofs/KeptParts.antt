@@ -4,7 +4,7 @@ use Rattle.std.specs.List.{list_all}
 use Rattle.std.proofs.lemmas.Bool.{and_parts}
 use Rattle.sqlite_keyed.specs.Rules.{AreApart}
 use Rattle.lab_store_tables.specs.Rows.{FormRow, RecordRow, VersionRow, EntryRow, SignatureRow, Tables, lab_id, person_id, record_id, version_id}
-use Rattle.lab_store_tables.specs.WellKept.{have_own_ids, have_parents, are_numbered, same_form, same_record, same_version, is_current, are_ids_unique, are_keys_unique, are_arrows_whole, are_all_numbered, is_said_alike, AreWellKept}
+use Rattle.lab_store_tables.specs.WellKept.{have_own_ids, have_parents, are_numbered_beside, same_form, same_record, same_version, is_current, are_ids_unique, are_keys_unique, are_arrows_whole, are_all_numbered, is_said_alike, AreWellKept}
 use Rattle.lab_store_laws.proofs.Bridges.{apart_from_test}
 
 -- no two rows have one id
@@ -80,8 +80,8 @@ own_arrows t arrows =
 
 -- records and versions are numbered from 1 on, and `current` counts the versions
 pub record OwnNumbers (t : Tables) : Type 0 where
-  pub records : are_numbered (λ (one other : RecordRow). int_eq other.lab one.lab) (λ (one : RecordRow). one.number) t.records ≡ true
-  pub versions : are_numbered (λ (one other : VersionRow). int_eq other.kept one.kept) (λ (one : VersionRow). one.number) t.versions ≡ true
+  pub records : are_numbered_beside (λ (one other : RecordRow). int_eq other.lab one.lab) (λ (one : RecordRow). one.number) t.records ≡ true
+  pub versions : are_numbered_beside (λ (one other : VersionRow). int_eq other.kept one.kept) (λ (one : VersionRow). one.number) t.versions ≡ true
   pub current : list_all (is_current t) t.records ≡ true
 
 own_numbers : (t : Tables) → are_all_numbered t ≡ true → is_said_alike t ≡ true → OwnNumbers t

@@ -12,7 +12,7 @@ use Rattle.sqlite_keyed.specs.Keyed.{IsKeyedBy, has_key, insert_by}
 use Rattle.sqlite_keyed.specs.Lists.{insert_sorted, sort_by}
 use Rattle.sqlite_keyed.proofs.ListLemmas.{all_from_test, all_weaker}
 use Rattle.sqlite_keyed.proofs.KeyedLemmas.{same_int, int_eq_apart}
-use Rattle.lab_store_tables.specs.WellKept.{are_numbered}
+use Rattle.lab_store_tables.specs.WellKept.{are_numbered_beside}
 use Rattle.lab_store_laws.proofs.SortLaws.{total_on}
 use Rattle.lab_store_laws.proofs.LevelLaws.{had_by, other_has, own_has_last}
 
@@ -57,7 +57,7 @@ length_sorted cmp (x ∷ xs) = let more = length_sorted cmp xs in let one = leng
 -- ---- a row under the next number
 
 module _ {X Y : Type 0} (id parent : X → ℤ) (number : X → ℕ) (shown : X → Y) (rows : List X) (rise : IsKeyedBy id rows)
-    (numbered : are_numbered (λ one other. int_eq (parent other) (parent one)) number rows ≡ true)
+    (numbered : are_numbered_beside (λ one other. int_eq (parent other) (parent one)) number rows ≡ true)
     (new : X) (fresh : has_key id rows (id new) ≡ false) (next : number new ≡ length (filter (λ one. int_eq (parent one) (parent new)) rows) + 1) where
   abbrev mine : ℤ → X → Bool
   mine at one = int_eq (parent one) at

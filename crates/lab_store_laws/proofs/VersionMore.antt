@@ -11,7 +11,7 @@ use Rattle.lab_records_kept.specs.Digests.{previous_of}
 use Rattle.lab_store_tables.specs.Rows.{VersionRow, EntryRow, SignatureRow, Tables, person_id, version_id, entry_id}
 use Rattle.lab_store_tables.specs.Columns.{format_in, format_number}
 use Rattle.lab_store_tables.specs.Meaning.{Leaf, entry_in, by_entry, entries_of, signature_in, by_signature, signatures_of, leaf_in, by_version, leaves_of, version_after}
-use Rattle.lab_store_tables.specs.WellKept.{have_own_ids, have_parents, are_numbered}
+use Rattle.lab_store_tables.specs.WellKept.{have_own_ids, have_parents, are_numbered_beside}
 use Rattle.lab_store_tables.specs.Changes.{InTurn, AddsSignature, AddsVersion, version_row_of, put_version}
 use Rattle.lab_store_tables.specs.Held.{AreRising}
 use Rattle.lab_store_tables.specs.Family.{Versions, Entries}
@@ -65,7 +65,7 @@ pub record MayOpen (t : Tables) : Type 0 where
   pub persons : have_own_ids person_id t.persons ≡ true
   pub versions : IsKeyedBy version_id t.versions
   pub entries : IsKeyedBy entry_id t.entries
-  pub numbers : are_numbered (λ (one other : VersionRow). int_eq other.kept one.kept) (λ (one : VersionRow). one.number) t.versions ≡ true
+  pub numbers : are_numbered_beside (λ (one other : VersionRow). int_eq other.kept one.kept) (λ (one : VersionRow). one.number) t.versions ≡ true
   pub entry_parents : have_parents (λ (one : EntryRow). Some one.version) version_id t.versions t.entries ≡ true
   pub signature_parents : have_parents (λ (one : SignatureRow). Some one.version) version_id t.versions t.signatures ≡ true
 

@@ -29,7 +29,7 @@ use Rattle.lab_store_tables.specs.Ready.{IsReady, Shuts, tables_of}
 use Rattle.lab_store_read.specs.Faults.{store_fault}
 use Rattle.lab_store_read.specs.Cells.{storage, IsNotMade}
 use Rattle.lab_store_read.specs.Causes.{IsCaused, HasItsCause}
-use Rattle.lab_store_read.specs.Reads.{Asks, FailsToAsk, Reads, MayRead}
+use Rattle.lab_store_read.specs.Reads.{AsksQuery, FailsToAsk, Reads, MayRead}
 use Rattle.lab_store_read.proofs.Loops.{HasPut}
 use Rattle.lab_store_read.proofs.Texts.{Means}
 
@@ -100,7 +100,7 @@ module _ {sql : List ℕ} {query : Query} {names : List (List ℕ)} {params : Ro
     query_so (inr it) = shows_so it.0 it.1 it.2
 
   -- one query of ours has its cause
-  pub asks_so : {r : Result (Vec Row Global) (Fault BadStore)} → Asks sql params old new r → HasItsCause (λ _. Unit {0}) old new r
+  pub asks_so : {r : Result (Vec Row Global) (Fault BadStore)} → AsksQuery sql params old new r → HasItsCause (λ _. Unit {0}) old new r
   asks_so {r} it = record { limit = it.survives.limit; cause = λ ready clean _. by r ready clean (it.err clean) }
     where
       by : (r : Result (Vec Row Global) (Fault BadStore)) → IsReady old → HasCleanDisk new → IfErr r (FailsToAsk sql params old new)

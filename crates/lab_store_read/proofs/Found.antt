@@ -8,7 +8,7 @@ use Rattle.std.specs.Ordering.{int_eq}
 use Rattle.sqlite_keyed.specs.Keyed.{get_by}
 use Rattle.lab_store_tables.specs.Rows.{PersonRow, person_id, Tables, number, flag, optional, number_in, flag_in, optional_in}
 use Rattle.lab_store_tables.specs.Meaning.{code_of}
-use Rattle.lab_store_read.specs.Cells.{is_text}
+use Rattle.lab_store_read.specs.Cells.{is_text_cell}
 use Rattle.lab_store_read.specs.Shown.{code_shown, codes_shown, code_read, shows_code}
 use Rattle.sqlite_value.specs.declared.value.Value.TheVariants.{Int, Blob, Text}
 use Rattle.sqlite_value.specs.Order.{bytes}
@@ -55,13 +55,13 @@ unfolding is_person_code
 empty_code h = let wrong : false ≡ true = (and_parts (is_utf8 []) (is_person_code []) h).1 in cc
 
 -- where the code of the person with the id is one, the query shows it
-pub code_there : (t : Tables) (id : ℤ) → IsTrue (is_text is_person_code (Text (code_of t id))) → IsTrue (shows_code (codes_shown t id))
+pub code_there : (t : Tables) (id : ℤ) → IsTrue (is_text_cell is_person_code (Text (code_of t id))) → IsTrue (shows_code (codes_shown t id))
 code_there t id h =
     go (filter (λ (one : PersonRow). int_eq one.id id) t.persons)
-    (subst (λ (o : Option PersonRow). IsTrue (is_text is_person_code (Text (unwrap_or (option_map (λ (one : PersonRow). one.code) o) []))))
+    (subst (λ (o : Option PersonRow). IsTrue (is_text_cell is_person_code (Text (unwrap_or (option_map (λ (one : PersonRow). one.code) o) []))))
     (sym (slice_get-filter (λ (one : PersonRow). int_eq one.id id) t.persons)) h)
   where
-    go : (found : List PersonRow) → IsTrue (is_text is_person_code (Text (unwrap_or (option_map (λ (one : PersonRow). one.code) (slice_get found 0)) [])))
+    go : (found : List PersonRow) → IsTrue (is_text_cell is_person_code (Text (unwrap_or (option_map (λ (one : PersonRow). one.code) (slice_get found 0)) [])))
         → IsTrue (shows_code (map code_shown found))
     go [] none = absurd (empty_code none)
     go (one ∷ more) there = there

@@ -11,7 +11,7 @@ use Rattle.lab_store_tables.proofs.KnownFile.{file}
 use Rattle.lab_forms_texts.specs.Moment.{is_moment}
 use Rattle.lab_forms_texts.specs.Names.{is_person_code}
 use Rattle.lab_forms_texts.specs.declared.refusals.Fault.TheVariants.{Refused, Memory}
-use Rattle.lab_store_read.specs.Cells.{is_id, is_number, is_small, is_text, is_digest, is_optional, stands}
+use Rattle.lab_store_read.specs.Cells.{is_id, is_number, is_small, is_text_cell, is_digest, is_optional, stands}
 use Rattle.lab_store_read.specs.Faults.{name_fault, store_fault}
 use Rattle.lab_store_read.specs.Shown.{codes_shown}
 
@@ -35,8 +35,8 @@ plain : (text : List ℕ) → all_scalars text ≡ true → encode_utf8_all text
 plain text scalars same = is_utf8-from_IsUtf8 text (text, (scalars, same))
 
 -- a code in capitals is none, nor is one whose bytes aren't a text's
-pub known_texts : (is_text is_person_code (Text (codes "eve")) ≡ true) × (is_text is_person_code (Text (codes "Eve")) ≡ false)
-    × (is_text is_person_code (Blob (codes "eve")) ≡ false)
+pub known_texts : (is_text_cell is_person_code (Text (codes "eve")) ≡ true) × (is_text_cell is_person_code (Text (codes "Eve")) ≡ false)
+    × (is_text_cell is_person_code (Blob (codes "eve")) ≡ false)
 unfolding is_person_code lib.Utf8.encode
 known_texts = (rw (plain (codes "eve") refl refl), rw (plain (codes "Eve") refl refl), refl)
 

@@ -11,14 +11,14 @@ use Rattle.sqlite_resolve.specs.Compile.{first}
 use Rattle.lab_store_tables.specs.Rows.{Tables, tables_in}
 use Rattle.lab_store_tables.specs.Ready.{IsKept, PassesBy, tables_of}
 use Rattle.lab_store_tables.proofs.Shutting.{shuts_none, shuts_on}
-use Rattle.lab_store_read.specs.Reads.{Asks, Reads, MayRead}
+use Rattle.lab_store_read.specs.Reads.{AsksQuery, Reads, MayRead}
 use Rattle.lab_store_read.proofs.Queries.{IsRead, shown_open, passes, same, ends, if_then}
 
 -- ---- one query
 
 -- a query of ours reads, where its rows are those that the tables show
 pub rows_read : {old new : State} {sql : List ℕ} {params : Row} {r : Result (Vec Row Global) (Fault BadStore)} {Answer : Tables → Vec Row Global → Type 0}
-    → IsRead (first sql) → Asks sql params old new r
+    → IsRead (first sql) → AsksQuery sql params old new r
     → ((rows : Vec Row Global) → IsKept old.now → Shown sql params old new rows.items → Answer (tables_of old) rows) → Reads Answer old new r
 rows_read {old} {new} {sql} {params} {r} {Answer} read it exact =
     let before : HasCleanDisk new → HasCleanDisk old = λ clean. omega (arith, it.survives.clean) in
@@ -38,7 +38,7 @@ kept_commit old new (inl it) = record { was_open = λ _. it.0.was_open; committe
 kept_commit old new (inr it) = record { was_open = it.was_open; committed = λ opened. (it.undone opened).1 }
 
 -- however a query of ours ends, nothing is committed
-pub rows_kept : {old new : State} {sql : List ℕ} {params : Row} {r : Result (Vec Row Global) (Fault BadStore)} → IsRead (first sql) → Asks sql params old new r
+pub rows_kept : {old new : State} {sql : List ℕ} {params : Row} {r : Result (Vec Row Global) (Fault BadStore)} → IsRead (first sql) → AsksQuery sql params old new r
     → HasCleanDisk new → KeepsCommit old new
 rows_kept {old} {new} {sql} {params} {r} read it clean =
     kept_commit old new (ends sql read params old new (λ (clean : HasCleanDisk new). omega (arith, it.survives.clean)) r (it.ok clean) (it.err clean))

@@ -27,9 +27,9 @@ abbrev pub is_small : ℕ → Bool
 is_small n = nat_lt n (2 ^ 32)
 
 -- a text of those that are admitted
-abbrev pub is_text : (List ℕ → Bool) → Value → Bool
-is_text admits (Text t) = is_utf8 t && admits t
-is_text admits _ = false
+abbrev pub is_text_cell : (List ℕ → Bool) → Value → Bool
+is_text_cell admits (Text t) = is_utf8 t && admits t
+is_text_cell admits _ = false
 
 -- a digest of 32 bytes
 abbrev pub is_digest : Value → Bool

@@ -17,7 +17,7 @@ FailsToAsk sql params old new fault =
     (error : Error) × FailsToQuery sql params old new error × (fault ≡ store_fault error)
 
 -- one query, whatever the file is
-pub record Asks (sql : List ℕ) (params : Row) (old new : State)
+pub record AsksQuery (sql : List ℕ) (params : Row) (old new : State)
     (result : Result (Vec Row Global) (Fault BadStore)) : Type 0 where
   pub ok : HasCleanDisk new → IfOk result (λ rows. Shown sql params old new rows.items)
   pub err : HasCleanDisk new → IfErr result (FailsToAsk sql params old new)

@@ -6,7 +6,7 @@ use Rattle.sqlite_value.specs.declared.value.Value.TheVariants.{Text}
 use Rattle.sqlite_value.specs.Order.{Row, column, bytes}
 use Rattle.lab_forms_texts.specs.Names.{is_person_code}
 use Rattle.lab_store_tables.specs.Rows.{PersonRow, Tables}
-use Rattle.lab_store_read.specs.Cells.{is_text, stands}
+use Rattle.lab_store_read.specs.Cells.{is_text_cell, stands}
 
 abbrev pub code_shown : PersonRow → Row
 code_shown one = Text one.code ∷ []
@@ -20,4 +20,4 @@ code_read row = bytes (column row 0)
 -- there is a first row, and a person's code stands in it
 abbrev pub shows_code : List Row → Bool
 shows_code rows =
-    option_map_or (λ (row : Row). stands (is_text is_person_code) row 0) (slice_get rows 0) false
+    option_map_or (λ (row : Row). stands (is_text_cell is_person_code) row 0) (slice_get rows 0) false

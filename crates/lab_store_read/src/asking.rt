@@ -2,7 +2,7 @@
 
 ghost use Rattle.std.specs.Prelude.{[], ◌∷◌, pos};
 ghost use Rattle.sqlite_value.specs.declared.value.Value.TheVariants.{Int, Text};
-ghost use Rattle.lab_store_read.specs.Reads.{Asks};
+ghost use Rattle.lab_store_read.specs.Reads.{AsksQuery};
 
 use crate::faults::ReadFault;
 use crate::readable::Readable;
@@ -17,7 +17,7 @@ pub fn rows_by_text<D: Readable>(
     sql: &str,
     first: &str,
 ) -> Result<Vec<Row>, ReadFault>
-    ensures { Asks sql.now (Text first.now ∷ []) (D.state conn.old) (D.state conn.new) result }
+    ensures { AsksQuery sql.now (Text first.now ∷ []) (D.state conn.old) (D.state conn.new) result }
 {
     conn.query_all(sql, params![first])
 }
@@ -27,7 +27,7 @@ pub fn rows_by_text<D: Readable>(
 /// # Errors
 /// The store failed, or memory ran out.
 pub fn rows_by_one<D: Readable>(conn: &mut D, sql: &str, first: i64) -> Result<Vec<Row>, ReadFault>
-    ensures { Asks sql.now (Int first ∷ []) (D.state conn.old) (D.state conn.new) result }
+    ensures { AsksQuery sql.now (Int first ∷ []) (D.state conn.old) (D.state conn.new) result }
 {
     conn.query_all(sql, params![first])
 }
@@ -42,7 +42,7 @@ pub fn rows_by_code<D: Readable>(
     first: i64,
     second: &str,
 ) -> Result<Vec<Row>, ReadFault>
-    ensures { Asks sql.now (Int first ∷ Text second.now ∷ [])
+    ensures { AsksQuery sql.now (Int first ∷ Text second.now ∷ [])
         (D.state conn.old) (D.state conn.new) result }
 {
     conn.query_all(sql, params![first, second])
@@ -59,7 +59,7 @@ pub fn rows_by_range<D: Readable>(
     second: u32,
     third: u32,
 ) -> Result<Vec<Row>, ReadFault>
-    ensures { Asks sql.now (Int first ∷ Int (pos second) ∷ Int (pos third) ∷ [])
+    ensures { AsksQuery sql.now (Int first ∷ Int (pos second) ∷ Int (pos third) ∷ [])
         (D.state conn.old) (D.state conn.new) result }
 {
     conn.query_all(sql, params![first, second, third])

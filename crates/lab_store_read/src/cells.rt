@@ -10,7 +10,7 @@ ghost use Rattle.sqlite_rules.specs.Edit.{id_in};
 ghost use Rattle.lab_forms_texts.specs.Moment.{is_moment};
 ghost use Rattle.lab_forms_texts.specs.Ordinals.{is_ordinal};
 ghost use Rattle.lab_store_tables.specs.Rows.{number, optional, number_in, flag_in, optional_in};
-ghost use Rattle.lab_store_read.specs.Cells.{storage, is_id, is_number, is_small, is_text, is_digest, is_optional, stands, IsNotRead, IsNotMade};
+ghost use Rattle.lab_store_read.specs.Cells.{storage, is_id, is_number, is_small, is_text_cell, is_digest, is_optional, stands, IsNotRead, IsNotMade};
 
 use crate::faults::{ReadFault, name_fault};
 use lab_forms_texts::{Moment, Ordinal, Rule, Text};
@@ -133,7 +133,7 @@ fn parsed_text<R: Rule>(alloc: Global, text: &[u8]) -> Result<Text<R>, ReadFault
 pub fn text_of<R: Rule>(alloc: Global, row: &Row, at: usize) -> Result<Text<R>, ReadFault>
     ensures value { IfOk result (λ text. text ≡ bytes (column row.now at)) }
     ensures shown { IfOk result (λ text. slice_get row.now at ≡ Some (StoredText text)) }
-    ensures fault { IfErr result (IsNotMade (stands (is_text R.admits) row.now at)) }
+    ensures fault { IfErr result (IsNotMade (stands (is_text_cell R.admits) row.now at)) }
 {
     match cell_of(row, at)? {
         ValueRef::Text(text) => parsed_text(alloc, text),
@@ -177,7 +177,7 @@ pub fn small_if(row: &Row, at: usize) -> Result<Option<u32>, ReadFault>
 pub fn text_if<R: Rule>(alloc: Global, row: &Row, at: usize) -> Result<Option<Text<R>>, ReadFault>
     ensures value { IfOk result (λ text. text ≡ optional_in bytes (column row.now at)) }
     ensures shown { IfOk result (λ text. slice_get row.now at ≡ Some (optional StoredText text)) }
-    ensures fault { IfErr result (IsNotMade (stands (is_optional (is_text R.admits)) row.now at)) }
+    ensures fault { IfErr result (IsNotMade (stands (is_optional (is_text_cell R.admits)) row.now at)) }
 {
     match cell_of(row, at)? {
         ValueRef::Null => Ok(None),

@@ -2,7 +2,7 @@
 
 ghost use Rattle.sqlite.specs.State.{State};
 ghost use Rattle.sqlite.specs.Values.{bound};
-ghost use Rattle.lab_store_read.specs.Reads.{Asks};
+ghost use Rattle.lab_store_read.specs.Reads.{AsksQuery};
 
 use crate::faults::ReadFault;
 use sqlite::Row;
@@ -22,5 +22,5 @@ pub trait Readable {
     /// # Errors
     /// The statement is refused, the disk fails, or memory runs out.
     fn query_all(&mut self, sql: &str, params: &[ValueRef<'_>]) -> Result<Vec<Row>, ReadFault>
-        ensures { Asks sql.now (bound params.now) (state self.old) (state self.new) result };
+        ensures { AsksQuery sql.now (bound params.now) (state self.old) (state self.new) result };
 }

@@ -12,7 +12,7 @@ use Rattle.lab_store_read_records.specs.declared.heads.RecordHead.{RecordHead}
 use Rattle.lab_store_read_records.specs.Readable.{HasRecord}
 use Rattle.lab_store_read_records.specs.Heads.{is_record, record_head}
 use Rattle.lab_store_read_records.specs.Retrieved.{abouts_shown, within_shown}
-use Rattle.lab_store_read_records.specs.Shown.{records_shown, record_read}
+use Rattle.lab_store_read_records.specs.Shown.{records_shown, record_head_of}
 use Rattle.lab_store_read_records.specs.Sought.{is_about, heads_within}
 use Rattle.lab_store_read_records.proofs.Found.{record_found}
 use Rattle.lab_store_read_records.proofs.RetrievalFound.{about_found, within_found}
@@ -92,13 +92,13 @@ module _ (t : Tables) where
     pub numbered_below : (number : ℕ) (head : Option RecordHead) → head ≡ option_map record_head (find (is_record lab number) t.records)
         → HasFirst (HasWholeRecord t) (records_shown t lab number) → IfSome head (HasParts t)
     numbered_below number head is has =
-        first_below record_read (HasWholeRecord t) (HasParts t) (λ row whole. whole.parts) (slice_get (records_shown t lab number) 0) head
+        first_below record_head_of (HasWholeRecord t) (HasParts t) (λ row whole. whole.parts) (slice_get (records_shown t lab number) 0) head
         (is ∙ sym (record_found t lab number)) has
 
     pub about_below : (form sample : List ℕ) (head : Option RecordHead) → head ≡ option_map record_head (find (is_about lab form sample) t.records)
         → HasFirst (HasWholeRecord t) (abouts_shown t lab form sample) → IfSome head (HasParts t)
     about_below form sample head is has =
-        first_below record_read (HasWholeRecord t) (HasParts t) (λ row whole. whole.parts) (slice_get (abouts_shown t lab form sample) 0) head
+        first_below record_head_of (HasWholeRecord t) (HasParts t) (λ row whole. whole.parts) (slice_get (abouts_shown t lab form sample) 0) head
         (is ∙ sym (about_found t lab form sample)) has
 
     pub own_records : (from to : ℕ) → All (HasWholeRecord t) (within_shown t lab from to) → All HasRecord (within_shown t lab from to)
@@ -107,6 +107,6 @@ module _ (t : Tables) where
     pub within_below : (from to : ℕ) (heads : List RecordHead) → heads ≡ heads_within t lab from to
         → All (HasWholeRecord t) (within_shown t lab from to) → All (HasParts t) heads
     within_below from to heads given all =
-        All-same (HasParts t) heads (map record_read (within_shown t lab from to)) (given ∙ sym (within_found t lab from to))
-        (All-map (HasParts t) record_read (within_shown t lab from to)
-        (All-weaker (HasWholeRecord t) (λ (row : Row). HasParts t (record_read row)) (λ row has. has.parts) (within_shown t lab from to) all))
+        All-same (HasParts t) heads (map record_head_of (within_shown t lab from to)) (given ∙ sym (within_found t lab from to))
+        (All-map (HasParts t) record_head_of (within_shown t lab from to)
+        (All-weaker (HasWholeRecord t) (λ (row : Row). HasParts t (record_head_of row)) (λ row has. has.parts) (within_shown t lab from to) all))

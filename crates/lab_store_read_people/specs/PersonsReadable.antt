@@ -9,7 +9,7 @@ use Rattle.lab_forms_texts.specs.Moment.{is_moment}
 use Rattle.lab_forms_texts.specs.Names.{is_name, is_person_code}
 use Rattle.lab_people_access.specs.Passwords.{are_rounds}
 use Rattle.lab_store_tables.specs.Rows.{Tables, number_in, optional_in}
-use Rattle.lab_store_read.specs.Cells.{is_id, is_number, is_small, is_text, is_digest, is_optional, stands}
+use Rattle.lab_store_read.specs.Cells.{is_id, is_number, is_small, is_text_cell, is_digest, is_optional, stands}
 use Rattle.lab_store_read.specs.Shown.{codes_shown, shows_code}
 use Rattle.lab_store_read_people.specs.declared.heads.AskHead.{AskHead}
 use Rattle.lab_store_read_people.specs.declared.heads.PersonHead.{PersonHead}
@@ -23,8 +23,8 @@ is_salt (Blob b) = length b == 16
 is_salt _ = false
 
 -- a kind of password: none, one that was chosen, or a one-time word
-abbrev pub is_kind : ℕ → Bool
-is_kind n = nat_le n 2
+abbrev pub is_password_kind : ℕ → Bool
+is_password_kind n = nat_le n 2
 
 -- a verifier, in the columns of its salt, its rounds and its bytes
 pub record HasVerifier (row : Row) (first second third : ℕ) : Type 0 where
@@ -45,7 +45,7 @@ pub record HasOneTime (row : Row) : Type 0 where
 
 -- what is kept of a password, by its kind
 pub record HasPassword (row : Row) : Type 0 where
-  pub kind : IsTrue (stands (is_number is_kind) row 6)
+  pub kind : IsTrue (stands (is_number is_password_kind) row 6)
   pub chosen : number_in (column row 6) ≡ 1 → HasChosen row
   pub one_time : number_in (column row 6) ≡ 2 → HasOneTime row
 
@@ -62,8 +62,8 @@ pub record HasAsk (row : Row) : Type 0 where
 -- ---- rows
 
 pub record HasPerson (row : Row) : Type 0 where
-  pub code : IsTrue (stands (is_text is_person_code) row 0)
-  pub name : IsTrue (stands (is_text is_name) row 1)
+  pub code : IsTrue (stands (is_text_cell is_person_code) row 0)
+  pub name : IsTrue (stands (is_text_cell is_name) row 1)
   pub roles : IsTrue (stands (is_number is_small) row 2)
   pub retired : IsTrue (stands (is_number is_small) row 3)
   pub failures : IsTrue (stands (is_number is_small) row 4)

@@ -9,7 +9,7 @@ use Rattle.lab_people_access.specs.declared.sessions.Session.{Session}
 use Rattle.lab_store_tables.specs.Rows.{SessionRow, Tables, number, flag, number_in, flag_in}
 use Rattle.lab_store_tables.specs.Changes.{is_session}
 use Rattle.lab_store_tables.specs.Meaning.{code_of}
-use Rattle.lab_store_read.specs.Cells.{is_number, is_small, is_text, is_digest, stands}
+use Rattle.lab_store_read.specs.Cells.{is_number, is_small, is_text_cell, is_digest, stands}
 
 abbrev pub session_shown : Tables → SessionRow → Row
 session_shown t one =
@@ -33,7 +33,7 @@ session_read row = record {
 -- each column of the row has a value of its type
 pub record HasSession (row : Row) : Type 0 where
   pub number : IsTrue (stands (is_number is_ordinal) row 0)
-  pub person : IsTrue (stands (is_text is_person_code) row 1)
+  pub person : IsTrue (stands (is_text_cell is_person_code) row 1)
   pub token : IsTrue (stands is_digest row 2)
   pub opened : IsTrue (stands (is_number is_moment) row 3)
   pub last : IsTrue (stands (is_number is_moment) row 4)

@@ -6,12 +6,12 @@ use Rattle.sqlite_value.specs.Order.{Row}
 use Rattle.lab_store_tables.specs.Rows.{Tables}
 use Rattle.lab_store_read_records.specs.declared.heads.VersionHead.{VersionHead}
 use Rattle.lab_store_read_records.specs.Heads.{versions_of}
-use Rattle.lab_store_read_records.specs.Readable.{HasVersion, HasLeaf, HasWholeVersion}
+use Rattle.lab_store_read_records.specs.Readable.{HasVersionColumns, HasLeaf, HasWholeVersion}
 use Rattle.lab_store_read_records.specs.Shown.{versions_shown, version_read}
 use Rattle.lab_store_read_records.proofs.Found.{versions_found}
 
-pub own_rows : (t : Tables) (kept : ℤ) → All (HasWholeVersion t) (versions_shown t kept) → All HasVersion (versions_shown t kept)
-own_rows t kept all = All-weaker (HasWholeVersion t) HasVersion (λ row has. has.own) (versions_shown t kept) all
+pub own_rows : (t : Tables) (kept : ℤ) → All (HasWholeVersion t) (versions_shown t kept) → All HasVersionColumns (versions_shown t kept)
+own_rows t kept all = All-weaker (HasWholeVersion t) HasVersionColumns (λ row has. has.own) (versions_shown t kept) all
 
 pub leaves_below : (t : Tables) (kept : ℤ) (heads : List VersionHead) → heads ≡ versions_of t kept → All (HasWholeVersion t) (versions_shown t kept)
     → All (λ (head : VersionHead). HasLeaf t head.id) heads

@@ -12,7 +12,7 @@ use Rattle.lab_store_tables.specs.Meaning.{Leaf}
 use Rattle.lab_store_read_records.specs.declared.heads.EntryHead.{EntryHead}
 use Rattle.lab_store_read_records.specs.declared.heads.VersionHead.{VersionHead}
 use Rattle.lab_store_read_records.specs.Leaves.{leaf_by}
-use Rattle.lab_store_read_records.specs.Shown.{lab_shown, labs_shown, lab_read, record_shown, records_shown, record_read, own_entry_shown, own_entries_shown, own_entry_read, signature_shown, signatures_shown, signature_read, version_shown, versions_shown, version_read}
+use Rattle.lab_store_read_records.specs.Shown.{lab_shown, labs_shown, lab_read, record_shown, records_shown, record_head_of, own_entry_shown, own_entries_shown, own_entry_read, signature_shown, signatures_shown, signature_read, version_shown, versions_shown, version_read}
 
 pub lab_found : (t : Tables) (code : List ℕ) → option_map lab_read (slice_get (labs_shown t code) 0) ≡ option_map lab_head (find (has_code code) t.labs)
 lab_found t code = go (filter (has_code code) t.labs) ∙ ap (option_map lab_head) (slice_get-filter (has_code code) t.labs)
@@ -54,10 +54,10 @@ version_back t one = λ i. record (version_head t one) { reason = text_back one.
 pub versions_found : (t : Tables) (kept : ℤ) → map version_read (versions_shown t kept) ≡ versions_of t kept
 versions_found t kept = map-map version_read (version_shown t) _ ∙ map_same _ _ (version_back t) _
 
-pub record_found : (t : Tables) (lab : ℤ) (number : ℕ) → option_map record_read (slice_get (records_shown t lab number) 0) ≡ option_map record_head (find (is_record lab number) t.records)
+pub record_found : (t : Tables) (lab : ℤ) (number : ℕ) → option_map record_head_of (slice_get (records_shown t lab number) 0) ≡ option_map record_head (find (is_record lab number) t.records)
 record_found t lab number = go (filter (is_record lab number) t.records) ∙ ap (option_map record_head) (slice_get-filter (is_record lab number) t.records)
   where
-    go : (found : List RecordRow) → option_map record_read (slice_get (map record_shown found) 0) ≡ option_map record_head (slice_get found 0)
+    go : (found : List RecordRow) → option_map record_head_of (slice_get (map record_shown found) 0) ≡ option_map record_head (slice_get found 0)
     go [] = refl
     go (one ∷ more) = refl
 

@@ -7,7 +7,7 @@ use Rattle.lab_store_tables.specs.Meaning.{leaves_of, entries_of}
 use Rattle.lab_store_tables.proofs.KnownFile.{filed, file}
 use Rattle.lab_store_read_records.specs.Heads.{record_head, versions_of, entry_heads_of, entry_by}
 use Rattle.lab_store_read_records.specs.Leaves.{leaf_by}
-use Rattle.lab_store_read_records.specs.Shown.{labs_shown, own_entries_shown, own_entry_read, entries_shown, records_shown, record_read, versions_shown, version_read}
+use Rattle.lab_store_read_records.specs.Shown.{labs_shown, own_entries_shown, own_entry_read, entries_shown, records_shown, record_head_of, versions_shown, version_read}
 
 -- aqua's own row, and none of a code that isn't there
 pub known_labs :
@@ -18,9 +18,9 @@ known_labs = (refl, refl)
 
 -- each laboratory has a record 1; the number is no id of a row
 pub known_records :
-    (map record_read (records_shown file (pos 3) 1)
+    (map record_head_of (records_shown file (pos 3) 1)
     ≡ record_head (filed (pos 2) (pos 3) 1 (pos 2) (codes "water") (codes "S1") 1) ∷ [])
-    × (map record_read (records_shown file (pos 7) 1)
+    × (map record_head_of (records_shown file (pos 7) 1)
     ≡ record_head (filed (pos 3) (pos 7) 1 (pos 1) (codes "water") (codes "S1") 2) ∷ [])
     × (records_shown file (pos 7) 3 ≡ [])
 known_records = (refl, refl, refl)

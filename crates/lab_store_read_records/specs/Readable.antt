@@ -8,7 +8,7 @@ use Rattle.lab_forms_texts.specs.Names.{is_lab_code, is_person_code, is_key, is_
 use Rattle.lab_forms_texts.specs.Ordinals.{is_ordinal}
 use Rattle.lab_store_tables.specs.Rows.{Tables, optional_in}
 use Rattle.lab_store_tables.specs.Meaning.{Leaf}
-use Rattle.lab_store_read.specs.Cells.{is_id, is_number, is_small, is_text, is_digest, is_optional, stands}
+use Rattle.lab_store_read.specs.Cells.{is_id, is_number, is_small, is_text_cell, is_digest, is_optional, stands}
 use Rattle.lab_store_read.specs.Shown.{codes_shown, shows_code}
 use Rattle.lab_store_read_records.specs.declared.heads.EntryHead.{EntryHead}
 use Rattle.lab_store_read_records.specs.Shown.{version_read, entries_shown, signatures_shown}
@@ -19,8 +19,8 @@ is_count n = true
 
 pub record HasLab (row : Row) : Type 0 where
   pub id : IsTrue (stands is_id row 0)
-  pub code : IsTrue (stands (is_text is_lab_code) row 1)
-  pub name : IsTrue (stands (is_text is_name) row 2)
+  pub code : IsTrue (stands (is_text_cell is_lab_code) row 1)
+  pub name : IsTrue (stands (is_text_cell is_name) row 2)
   pub last : IsTrue (stands (is_number is_moment) row 3)
   pub strays : IsTrue (stands (is_number is_count) row 4)
   pub records : IsTrue (stands (is_number is_count) row 5)
@@ -31,26 +31,26 @@ pub record HasRecord (row : Row) : Type 0 where
   pub id : IsTrue (stands is_id row 0)
   pub number : IsTrue (stands (is_number is_ordinal) row 1)
   pub form : IsTrue (stands is_id row 2)
-  pub form_code : IsTrue (stands (is_text is_key) row 3)
-  pub sample : IsTrue (stands (is_text is_name) row 4)
+  pub form_code : IsTrue (stands (is_text_cell is_key) row 3)
+  pub sample : IsTrue (stands (is_text_cell is_name) row 4)
   pub current : IsTrue (stands (is_number is_small) row 5)
 
-pub record HasVersion (row : Row) : Type 0 where
+pub record HasVersionColumns (row : Row) : Type 0 where
   pub id : IsTrue (stands is_id row 0)
   pub number : IsTrue (stands (is_number is_ordinal) row 1)
   pub format : IsTrue (stands (is_number is_small) row 2)
-  pub opener : IsTrue (stands (is_text is_person_code) row 3)
+  pub opener : IsTrue (stands (is_text_cell is_person_code) row 3)
   pub opened : IsTrue (stands (is_number is_moment) row 4)
-  pub reason : IsTrue (stands (is_optional (is_text is_note)) row 5)
+  pub reason : IsTrue (stands (is_optional (is_text_cell is_note)) row 5)
 
 -- the own row of an entry
 pub record HasOwnEntry (row : Row) : Type 0 where
-  pub key : IsTrue (stands (is_text is_key) row 0)
-  pub value : IsTrue (stands (is_text is_note) row 1)
-  pub unit : IsTrue (stands (is_text is_unit) row 2)
+  pub key : IsTrue (stands (is_text_cell is_key) row 0)
+  pub value : IsTrue (stands (is_text_cell is_note) row 1)
+  pub unit : IsTrue (stands (is_text_cell is_unit) row 2)
   pub person : IsTrue (stands is_id row 3)
   pub moment : IsTrue (stands (is_number is_moment) row 4)
-  pub reason : IsTrue (stands (is_optional (is_text is_note)) row 5)
+  pub reason : IsTrue (stands (is_optional (is_text_cell is_note)) row 5)
 
 -- the code of whoever entered it
 abbrev pub HasWriter : Tables → EntryHead → Type 0
@@ -58,12 +58,12 @@ HasWriter t head = IsTrue (shows_code (codes_shown t head.person))
 
 -- an entry with its person's code
 pub record HasEntry (row : Row) : Type 0 where
-  pub key : IsTrue (stands (is_text is_key) row 0)
-  pub value : IsTrue (stands (is_text is_note) row 1)
-  pub unit : IsTrue (stands (is_text is_unit) row 2)
-  pub person : IsTrue (stands (is_text is_person_code) row 3)
+  pub key : IsTrue (stands (is_text_cell is_key) row 0)
+  pub value : IsTrue (stands (is_text_cell is_note) row 1)
+  pub unit : IsTrue (stands (is_text_cell is_unit) row 2)
+  pub person : IsTrue (stands (is_text_cell is_person_code) row 3)
   pub moment : IsTrue (stands (is_number is_moment) row 4)
-  pub reason : IsTrue (stands (is_optional (is_text is_note)) row 5)
+  pub reason : IsTrue (stands (is_optional (is_text_cell is_note)) row 5)
 
 -- the words that a version is signed as; a rejection has a reason
 abbrev pub is_meaning : List ℕ → Option (List ℕ) → Bool
@@ -73,13 +73,13 @@ is_meaning word reason =
     || (bytes_eq word (codes "rejection") && is_some reason)
 
 pub record HasMeaning (row : Row) : Type 0 where
-  pub word : IsTrue (stands (is_text is_key) row 2)
-  pub reason : IsTrue (stands (is_optional (is_text is_note)) row 3)
+  pub word : IsTrue (stands (is_text_cell is_key) row 2)
+  pub reason : IsTrue (stands (is_optional (is_text_cell is_note)) row 3)
   pub known : IsTrue (is_meaning (bytes (column row 2)) (optional_in bytes (column row 3)))
 
 pub record HasSignature (row : Row) : Type 0 where
-  pub person : IsTrue (stands (is_text is_person_code) row 0)
-  pub name : IsTrue (stands (is_text is_name) row 1)
+  pub person : IsTrue (stands (is_text_cell is_person_code) row 0)
+  pub name : IsTrue (stands (is_text_cell is_name) row 1)
   pub meaning : HasMeaning row
   pub moment : IsTrue (stands (is_number is_moment) row 4)
   pub digest : IsTrue (stands is_digest row 5)
@@ -94,7 +94,7 @@ pub record HasLeaf (t : Tables) (version : ℤ) : Type 0 where
 
 -- the own row of a version, and those that it leads to
 pub record HasWholeVersion (t : Tables) (row : Row) : Type 0 where
-  pub own : HasVersion row
+  pub own : HasVersionColumns row
   pub leaf : HasLeaf t (version_read row).id
 
 -- behind no version stands the one of number 1; behind another one any other, with a reason

@@ -125,8 +125,8 @@ record_shown one =
 abbrev pub records_shown : Tables → ℤ → ℕ → List Row
 records_shown t lab wanted = map record_shown (filter (is_record lab wanted) t.records)
 
-abbrev pub record_read : Row → RecordHead
-record_read row = record {
+abbrev pub record_head_of : Row → RecordHead
+record_head_of row = record {
   id = id_in (column row 0);
   number = number_in (column row 1);
   form = id_in (column row 2);

@@ -2,7 +2,7 @@
 
 ghost use Rattle.std.specs.Prelude.{pos, [], ◌∷◌};
 ghost use Rattle.sqlite_value.specs.declared.value.Value.TheVariants.{Int};
-ghost use Rattle.lab_store_read.specs.Reads.{Asks};
+ghost use Rattle.lab_store_read.specs.Reads.{AsksQuery};
 
 use lab_store_read::{ReadFault, Readable};
 use sqlite::{Row, params};
@@ -17,7 +17,7 @@ pub(crate) fn rows_by_two<D: Readable>(
     first: i64,
     second: u32,
 ) -> Result<Vec<Row>, ReadFault>
-    ensures { Asks sql.now (Int first ∷ Int (pos second) ∷ [])
+    ensures { AsksQuery sql.now (Int first ∷ Int (pos second) ∷ [])
         (D.state conn.old) (D.state conn.new) result }
 {
     conn.query_all(sql, params![first, second])

@@ -2,7 +2,7 @@
 
 ghost use Rattle.std.specs.Prelude.{[], ◌∷◌};
 ghost use Rattle.sqlite_value.specs.declared.value.Value.TheVariants.{Int, Text};
-ghost use Rattle.lab_store_read.specs.Reads.{Asks};
+ghost use Rattle.lab_store_read.specs.Reads.{AsksQuery};
 
 use lab_store_read::{ReadFault, Readable};
 use sqlite::{Row, params};
@@ -18,7 +18,7 @@ pub(crate) fn rows_by_key<D: Readable>(
     second: &str,
     third: &str,
 ) -> Result<Vec<Row>, ReadFault>
-    ensures { Asks sql.now (Int first ∷ Text second.now ∷ Text third.now ∷ [])
+    ensures { AsksQuery sql.now (Int first ∷ Text second.now ∷ Text third.now ∷ [])
         (D.state conn.old) (D.state conn.new) result }
 {
     conn.query_all(sql, params![first, second, third])

@@ -3,7 +3,7 @@
 ghost use Rattle.std.specs.Prelude.{◌≡◌, find, option_map, slice_get, IfOk, IfErr};
 ghost use Rattle.lab_store_read_records.specs.Heads.{is_record, record_head};
 ghost use Rattle.lab_store_read_records.specs.Readable.{HasRecord};
-ghost use Rattle.lab_store_read_records.specs.Shown.{records_shown, record_read};
+ghost use Rattle.lab_store_read_records.specs.Shown.{records_shown, record_head_of};
 ghost use Rattle.lab_store_read.specs.Causes.{HasItsCause, HasFirst};
 ghost use Rattle.lab_store_read.specs.Cells.{storage};
 ghost use Rattle.lab_store_read.specs.Reads.{Reads};
@@ -35,7 +35,7 @@ fn record_rows<D: Readable>(conn: &mut D, lab: i64, number: u32) -> Result<Vec<R
 /// # Errors
 /// The store failed, a row isn't one that this program could have written, or memory ran out.
 pub(crate) fn record_of_row(alloc: Global, row: &Row) -> Result<RecordHead, ReadFault>
-    ensures value { IfOk result (λ found. found ≡ record_read row.now) }
+    ensures value { IfOk result (λ found. found ≡ record_head_of row.now) }
     ensures fault { IfErr result (λ fault. fault ≡ storage → ¬ HasRecord row.now) }
 {
     let id = id_of(row, 0)?;
@@ -59,7 +59,7 @@ pub(crate) fn record_of_row(alloc: Global, row: &Row) -> Result<RecordHead, Read
 /// # Errors
 /// The store failed, a row isn't one that this program could have written, or memory ran out.
 pub(crate) fn first_record(alloc: Global, rows: &[Row]) -> Result<Option<RecordHead>, ReadFault>
-    ensures value { IfOk result (λ found. found ≡ option_map record_read (slice_get rows.now 0)) }
+    ensures value { IfOk result (λ found. found ≡ option_map record_head_of (slice_get rows.now 0)) }
     ensures fault { IfErr result (λ fault. fault ≡ storage → ¬ HasFirst HasRecord rows.now) }
 {
     match rows.first() {

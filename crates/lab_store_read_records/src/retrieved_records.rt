@@ -2,7 +2,7 @@
 
 ghost use Rattle.std.specs.Prelude.{◌≡◌, map, find, option_map, All, IfOk, IfErr};
 ghost use Rattle.lab_store_read_records.specs.Heads.{record_head};
-ghost use Rattle.lab_store_read_records.specs.Shown.{record_read};
+ghost use Rattle.lab_store_read_records.specs.Shown.{record_head_of};
 ghost use Rattle.lab_store_read_records.specs.Sought.{is_about, heads_within};
 ghost use Rattle.lab_store_read_records.specs.Readable.{HasRecord};
 ghost use Rattle.lab_store_read_records.specs.Retrieved.{abouts_shown, within_shown};
@@ -83,7 +83,7 @@ fn within_rows<D: Readable>(
 
 // The records that rows show.
 fn records_of_rows(alloc: Global, rows: &[Row]) -> Result<Vec<RecordHead>, ReadFault>
-    ensures value { IfOk result (λ made. made.items ≡ map record_read rows.now) }
+    ensures value { IfOk result (λ made. made.items ≡ map record_head_of rows.now) }
     ensures fault { IfErr result (λ fault. fault ≡ storage → ¬ All HasRecord rows.now) }
 {
     let mut made = Vec::new(alloc);

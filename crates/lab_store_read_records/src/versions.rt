@@ -2,7 +2,7 @@
 
 ghost use Rattle.std.specs.Prelude.{◌≡◌, map, All, IfOk, IfErr};
 ghost use Rattle.lab_store_read_records.specs.Heads.{versions_of};
-ghost use Rattle.lab_store_read_records.specs.Readable.{HasVersion};
+ghost use Rattle.lab_store_read_records.specs.Readable.{HasVersionColumns};
 ghost use Rattle.lab_store_read_records.specs.Shown.{versions_shown, version_read};
 ghost use Rattle.lab_store_read.specs.Causes.{HasItsCause};
 ghost use Rattle.lab_store_read.specs.Cells.{storage};
@@ -31,7 +31,7 @@ fn version_rows<D: Readable>(conn: &mut D, kept: i64) -> Result<Vec<Row>, ReadFa
 // The version that a row shows.
 fn version_of_row(alloc: Global, row: &Row) -> Result<VersionHead, ReadFault>
     ensures value { IfOk result (λ version. version ≡ version_read row.now) }
-    ensures fault { IfErr result (λ fault. fault ≡ storage → ¬ HasVersion row.now) }
+    ensures fault { IfErr result (λ fault. fault ≡ storage → ¬ HasVersionColumns row.now) }
 {
     let id = id_of(row, 0)?;
     let number = ordinal_of(row, 1)?;
@@ -52,7 +52,7 @@ fn version_of_row(alloc: Global, row: &Row) -> Result<VersionHead, ReadFault>
 // The versions that rows show.
 fn versions_of_rows(alloc: Global, rows: &[Row]) -> Result<Vec<VersionHead>, ReadFault>
     ensures value { IfOk result (λ made. made.items ≡ map version_read rows.now) }
-    ensures fault { IfErr result (λ fault. fault ≡ storage → ¬ All HasVersion rows.now) }
+    ensures fault { IfErr result (λ fault. fault ≡ storage → ¬ All HasVersionColumns rows.now) }
 {
     let mut made = Vec::new(alloc);
     for row in rows {
@@ -72,7 +72,7 @@ pub fn versions_at<D: Readable>(
 ) -> Result<Vec<VersionHead>, ReadFault>
     ensures reads { Reads (λ t made. made.items ≡ versions_of t kept)
         (D.state conn.old) (D.state conn.new) result }
-    ensures cause { HasItsCause (λ t. All HasVersion (versions_shown t kept))
+    ensures cause { HasItsCause (λ t. All HasVersionColumns (versions_shown t kept))
         (D.state conn.old) (D.state conn.new) result }
 {
     let rows = version_rows(conn, kept)?;

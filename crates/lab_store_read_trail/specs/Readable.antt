@@ -10,7 +10,7 @@ use Rattle.lab_forms_texts.specs.Ordinals.{is_ordinal}
 use Rattle.lab_records_kept.specs.Trails.{action_word}
 use Rattle.lab_store_tables.specs.Rows.{Tables}
 use Rattle.lab_store_tables.specs.Columns.{action_in}
-use Rattle.lab_store_read.specs.Cells.{is_id, is_number, is_text, is_optional, stands}
+use Rattle.lab_store_read.specs.Cells.{is_id, is_number, is_text_cell, is_optional, stands}
 use Rattle.lab_store_read.specs.Shown.{codes_shown, shows_code}
 use Rattle.lab_store_read_trail.specs.declared.heads.ToldHead.{ToldHead}
 use Rattle.lab_store_read_trail.specs.Shown.{told_read}
@@ -27,9 +27,9 @@ pub record HasTold (row : Row) : Type 0 where
   pub number : IsTrue (stands (is_number is_ordinal) row 0)
   pub moment : IsTrue (stands (is_number is_moment) row 1)
   pub person : IsTrue (stands (is_optional is_id) row 2)
-  pub action : IsTrue (stands (is_text is_key) row 3)
+  pub action : IsTrue (stands (is_text_cell is_key) row 3)
   pub known : IsTrue (is_action (bytes (column row 3)))
-  pub subject : IsTrue (stands (is_text is_subject) row 4)
+  pub subject : IsTrue (stands (is_text_cell is_subject) row 4)
 
 -- the code of whoever did it, if somebody did
 abbrev pub HasDoer : Tables → ToldHead → Type 0

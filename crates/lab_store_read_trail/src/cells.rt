@@ -4,7 +4,7 @@
 ghost use Rattle.std.specs.Prelude.{◌≡◌, ◌&&◌, IfOk, IfErr};
 ghost use Rattle.std.specs.Str.{is_utf8};
 ghost use Rattle.sqlite_value.specs.Order.{column, bytes};
-ghost use Rattle.lab_store_read.specs.Cells.{is_text, stands, IsNotMade};
+ghost use Rattle.lab_store_read.specs.Cells.{is_text_cell, stands, IsNotMade};
 ghost use Rattle.lab_store_read_trail.specs.Readable.{is_subject};
 
 use lab_records_kept::Subject;
@@ -31,7 +31,7 @@ fn subject_by(alloc: Global, text: &[u8]) -> Result<Subject, ReadFault>
 /// The column holds no text, or memory ran out for it.
 pub(crate) fn subject_of(alloc: Global, row: &Row, at: usize) -> Result<Subject, ReadFault>
     ensures value { IfOk result (λ subject. subject ≡ bytes (column row.now at)) }
-    ensures fault { IfErr result (IsNotMade (stands (is_text is_subject) row.now at)) }
+    ensures fault { IfErr result (IsNotMade (stands (is_text_cell is_subject) row.now at)) }
 {
     match cell_of(row, at)? {
         ValueRef::Text(text) => subject_by(alloc, text),

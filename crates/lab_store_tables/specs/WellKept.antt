@@ -186,30 +186,30 @@ are_labs_apart t =
 
 -- each number lies from 1 to the number of rows beside which it is counted; as no two of these rows
 -- have one number, they run from 1 without gaps
-abbrev pub are_numbered : {X : Type 0} → (X → X → Bool) → (X → ℕ) → List X → Bool
-are_numbered beside number rows =
+abbrev pub are_numbered_beside : {X : Type 0} → (X → X → Bool) → (X → ℕ) → List X → Bool
+are_numbered_beside beside number rows =
     list_all (λ one.
     nat_le 1 (number one) && nat_le (number one) (length (filter (beside one) rows))) rows
 
 abbrev pub are_all_numbered : Tables → Bool
 are_all_numbered t =
-    are_numbered (λ (one other : SessionRow). int_eq other.lab one.lab)
+    are_numbered_beside (λ (one other : SessionRow). int_eq other.lab one.lab)
     (λ (one : SessionRow). one.number) t.sessions
-    && are_numbered (λ (one other : FormRow). same_code one other)
+    && are_numbered_beside (λ (one other : FormRow). same_code one other)
     (λ (one : FormRow). one.version) t.forms
-    && are_numbered (λ (one other : FieldRow). int_eq other.form one.form)
+    && are_numbered_beside (λ (one other : FieldRow). int_eq other.form one.form)
     (λ (one : FieldRow). one.place) t.fields
-    && are_numbered (λ (one other : ChoiceRow). int_eq other.field one.field)
+    && are_numbered_beside (λ (one other : ChoiceRow). int_eq other.field one.field)
     (λ (one : ChoiceRow). one.place) t.choices
-    && are_numbered (λ (one other : RecordRow). int_eq other.lab one.lab)
+    && are_numbered_beside (λ (one other : RecordRow). int_eq other.lab one.lab)
     (λ (one : RecordRow). one.number) t.records
-    && are_numbered (λ (one other : VersionRow). int_eq other.kept one.kept)
+    && are_numbered_beside (λ (one other : VersionRow). int_eq other.kept one.kept)
     (λ (one : VersionRow). one.number) t.versions
-    && are_numbered (λ (one other : EntryRow). int_eq other.version one.version)
+    && are_numbered_beside (λ (one other : EntryRow). int_eq other.version one.version)
     (λ (one : EntryRow). one.place) t.entries
-    && are_numbered (λ (one other : SignatureRow). int_eq other.version one.version)
+    && are_numbered_beside (λ (one other : SignatureRow). int_eq other.version one.version)
     (λ (one : SignatureRow). one.place) t.signatures
-    && are_numbered (λ (one other : TrailRow). int_eq other.lab one.lab)
+    && are_numbered_beside (λ (one other : TrailRow). int_eq other.lab one.lab)
     (λ (one : TrailRow). one.number) t.trail
 
 -- ---- what is said twice

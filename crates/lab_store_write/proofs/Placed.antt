@@ -8,7 +8,7 @@ use Rattle.lab_store_tables.specs.Rows.{Tables}
 use Rattle.lab_store_tables.specs.Held.{IsTyped}
 use Rattle.lab_store_tables.specs.Ready.{tables_of}
 use Rattle.lab_store_write.specs.declared.statements.RowId.{RowId}
-use Rattle.lab_store_write.specs.Calls.{Stays, Answers}
+use Rattle.lab_store_write.specs.Calls.{Stays, AnswersCall}
 use Rattle.lab_store_write.proofs.Inside.{Wrote}
 
 module _ {T : Type 0} {lender : T → ℕ × ℕ} {state : T → State} {old new : T} where
@@ -18,7 +18,7 @@ module _ {T : Type 0} {lender : T → ℕ × ℕ} {state : T → State} {old new
       → IfOk r (λ one. (count : ℕ) × ExecutesInside 0 sql given (state old) (state new) (Ok count) × (one.id ≡ (state new).last_rowid)))
       → ((count : ℕ) → IsTyped (state old).now → Executes sql params (state old) (state new) (Ok count)
       → Wrote (made (tables_of (state old))) (state new).now × ((state new).last_rowid ≡ next (tables_of (state old))))
-      → Answers lender state (λ (one : RowId) before after. (one.id ≡ next before) × (after ≡ made before)) old new r
+      → AnswersCall lender state (λ (one : RowId) before after. (one.id ≡ next before) × (after ≡ made before)) old new r
   placed sql params made next {given} {r} stays same ran wrote = record {
     stays = stays;
     made = λ inside clean. if_then r (λ one it.

@@ -13,7 +13,7 @@ use Rattle.lab_store_tables.specs.Changes.{InTurn}
 use Rattle.lab_store_tables.specs.Held.{IsTyped}
 use Rattle.lab_store_tables.specs.Ready.{tables_of}
 use Rattle.lab_store_read.proofs.Queries.{IsRead, if_then}
-use Rattle.lab_store_write.specs.Calls.{Steps, Stays, Answers, Writes, Becomes, Finds, MadeFrom, CountsBelow}
+use Rattle.lab_store_write.specs.Calls.{Steps, Stays, AnswersCall, Writes, Becomes, Finds, MadeFrom, CountsBelow}
 use Rattle.lab_store_write.proofs.Inside.{Wrote, made_as, steps_weaker, found_then, known_then, keeps_then, none_then, turns_none, turns_more}
 use Rattle.lab_store_write.proofs.Lookups.{looked, looked_keeps}
 
@@ -24,7 +24,7 @@ module _ {T : Type 0} {lender : T → ℕ × ℕ} {state : T → State} {old new
   pub wrote_as : (sql : List ℕ) (params : Row) (step : ℕ → Tables → Tables → Type 0) {given : Row} {r : Result ℕ Error} → Stays lender state old new → given ≡ params
       → (IsTrue (state old).in_transaction → HasCleanDisk (state new) → ExecutesInside 0 sql given (state old) (state new) r)
       → ((count : ℕ) → IsTyped (state old).now → Executes sql params (state old) (state new) (Ok count) → (t : Tables) × Wrote t (state new).now × step count (tables_of (state old)) t)
-      → Answers lender state step old new r
+      → AnswersCall lender state step old new r
   wrote_as sql params step {given} {r} stays same ran makes = record {
     stays = stays;
     made = λ inside clean. made_as sql params (state old) (state new) step r
@@ -47,7 +47,7 @@ module _ {T : Type 0} {lender : T → ℕ × ℕ} {state : T → State} {old new
       → (HasCleanDisk (state new) → IfOk r (λ rows. Shown sql given (state old) (state new) rows.items))
       → (HasCleanDisk (state new) → IfErr r (λ e. FailsToQuery sql given (state old) (state new) e ⊎ IsTooLate sql given (state old) (state new) e))
       → ((rows : List Row) → IsTyped (state old).now → Shown sql params (state old) (state new) rows → rows ≡ answer (tables_of (state old)))
-      → Answers lender state (λ (rows : Vec Row Global). Finds (λ t. rows.items ≡ answer t)) old new r
+      → AnswersCall lender state (λ (rows : Vec Row Global). Finds (λ t. rows.items ≡ answer t)) old new r
   rows_found sql read params answer {given} {r} is same survives ok err exact =
       let before : HasCleanDisk (state new) → HasCleanDisk (state old) = λ clean. omega (arith, survives.clean) in
       record {
@@ -65,7 +65,7 @@ module _ {T : Type 0} {lender : T → ℕ × ℕ} {state : T → State} {old new
       → CountsBelow lender state sql parent old new r
       → ((rows : List Row) → IsTyped (state old).now → Shown sql (Int parent ∷ []) (state old) (state new) rows → rows ≡ answer (tables_of (state old)))
       → ((t : Tables) → length (answer t) ≡ count t)
-      → Answers lender state (λ (place : ℕ). Finds (λ t. place ≡ count t + 1)) old new r
+      → AnswersCall lender state (λ (place : ℕ). Finds (λ t. place ≡ count t + 1)) old new r
   place_found {sql} {parent} read answer count {r} it exact counts = record {
     stays = record { same_lender = it.same_lender; survives = it.survives; kept = λ inside clean. keeps r (it.ok clean) (it.err clean) };
     made = λ inside clean. makes inside r (it.ok clean);
@@ -92,8 +92,8 @@ module _ {T : Type 0} {lender : T → ℕ × ℕ} {state : T → State} {old new
   -- ---- a call
 
   -- the step in other words
-  pub answers_as : {A E : Type 0} {P Q : A → Tables → Tables → Type 0} {r : Result A E} → Answers lender state P old new r
-      → ((x : A) → Steps (P x) (state old) (state new) → Steps (Q x) (state old) (state new)) → Answers lender state Q old new r
+  pub answers_as : {A E : Type 0} {P Q : A → Tables → Tables → Type 0} {r : Result A E} → AnswersCall lender state P old new r
+      → ((x : A) → Steps (P x) (state old) (state new) → Steps (Q x) (state old) (state new)) → AnswersCall lender state Q old new r
   answers_as {r = r} it f = record { stays = it.stays; made = λ inside clean. if_then r f (it.made inside clean) }
 
 -- ---- no call
@@ -116,7 +116,7 @@ module _ {T : Type 0} {lender : T → ℕ × ℕ} {state : T → State} (a : T) 
   -- a step that takes nothing
   pub nothing_asked : {A E : Type 0} {step : A → Tables → Tables → Type 0} {r : Result A E}
       → (IsTrue (state a).in_transaction → IfOk r (λ one. Steps (step one) (state a) (state a)))
-      → Answers lender state step a a r
+      → AnswersCall lender state step a a r
   nothing_asked f = record { stays = nothing_done; made = λ inside clean. f inside }
 
 -- ---- one call and then another
@@ -137,10 +137,10 @@ module _ {T : Type 0} {lender : T → ℕ × ℕ} {state : T → State} {a b c :
   }
 
 module _ {T A E : Type 0} {lender : T → ℕ × ℕ} {state : T → State} {P : A → Tables → Tables → Type 0} {a b : T} {x : A}
-    (p : Answers {E = E} lender state P a b (Ok x)) where
+    (p : AnswersCall {E = E} lender state P a b (Ok x)) where
   -- what is made of an answer
   pub and_so : {B F : Type 0} {Q : B → Tables → Tables → Type 0} {r : Result B F}
-      → (Steps (P x) (state a) (state b) → IfOk r (λ y. Steps (Q y) (state a) (state b))) → Answers lender state Q a b r
+      → (Steps (P x) (state a) (state b) → IfOk r (λ y. Steps (Q y) (state a) (state b))) → AnswersCall lender state Q a b r
   and_so f = record { stays = p.stays; made = λ inside clean. f (p.made inside clean) }
 
   -- the step in other words
@@ -149,24 +149,24 @@ module _ {T A E : Type 0} {lender : T → ℕ × ℕ} {state : T → State} {P :
   as_step f = and_so f
 
   -- another call after it, however that ends
-  module _ {B F : Type 0} {Q : B → Tables → Tables → Type 0} {c : T} {s : Result B F} (q : Answers lender state Q b c s) where
+  module _ {B F : Type 0} {Q : B → Tables → Tables → Type 0} {c : T} {s : Result B F} (q : AnswersCall lender state Q b c s) where
     stays_both : Stays lender state a c
     stays_both = stays_then p.stays (λ inside clean. (p.made inside clean).inside) q.stays
 
     pub and_then : {C G : Type 0} {R : C → Tables → Tables → Type 0} {r : Result C G}
         → (Steps (P x) (state a) (state b) → IfOk s (λ y. Steps (Q y) (state b) (state c)) → IfOk r (λ z. Steps (R z) (state a) (state c)))
-        → Answers lender state R a c r
+        → AnswersCall lender state R a c r
     and_then f = record {
       stays = stays_both;
       made = λ inside clean. let one = p.made inside (clean_before q.stays clean) in f one (q.made one.inside clean);
     }
 
   -- two more
-  module _ {B F : Type 0} {Q : B → Tables → Tables → Type 0} {c : T} {y : B} (q : Answers {E = F} lender state Q b c (Ok y)) where
+  module _ {B F : Type 0} {Q : B → Tables → Tables → Type 0} {c : T} {y : B} (q : AnswersCall {E = F} lender state Q b c (Ok y)) where
     on_both : IsTrue (state a).in_transaction → HasCleanDisk (state c) → Steps (P x) (state a) (state b) × Steps (Q y) (state b) (state c)
     on_both inside clean = let one = p.made inside (clean_before q.stays clean) in (one, q.made one.inside clean)
 
-    module _ {C G : Type 0} {R : C → Tables → Tables → Type 0} {d : T} {s : Result C G} (t : Answers lender state R c d s) where
+    module _ {C G : Type 0} {R : C → Tables → Tables → Type 0} {d : T} {s : Result C G} (t : AnswersCall lender state R c d s) where
       stays_three : Stays lender state a d
       stays_three = stays_then (stays_both q) (λ inside clean. (on_both inside clean).1.inside) t.stays
 
@@ -174,7 +174,7 @@ module _ {T A E : Type 0} {lender : T → ℕ × ℕ} {state : T → State} {P :
       pub and_two_by : {D H : Type 0} {S : D → Tables → Tables → Type 0} {r : Result D H}
           → (IsTrue (state a).in_transaction → HasCleanDisk (state b) → Steps (P x) (state a) (state b) → Steps (Q y) (state b) (state c)
           → IfOk s (λ z. Steps (R z) (state c) (state d)) → IfOk r (λ w. Steps (S w) (state a) (state d)))
-          → Answers lender state S a d r
+          → AnswersCall lender state S a d r
       and_two_by f = record {
         stays = stays_three;
         made = λ inside clean.
@@ -186,16 +186,16 @@ module _ {T A E : Type 0} {lender : T → ℕ × ℕ} {state : T → State} {P :
       pub and_two : {D H : Type 0} {S : D → Tables → Tables → Type 0} {r : Result D H}
           → (Steps (P x) (state a) (state b) → Steps (Q y) (state b) (state c) → IfOk s (λ z. Steps (R z) (state c) (state d))
           → IfOk r (λ w. Steps (S w) (state a) (state d)))
-          → Answers lender state S a d r
+          → AnswersCall lender state S a d r
       and_two f = and_two_by (λ _ _. f)
 
     -- three more
-    module _ {C G : Type 0} {R : C → Tables → Tables → Type 0} {d : T} {z : C} (t : Answers {E = G} lender state R c d (Ok z)) where
+    module _ {C G : Type 0} {R : C → Tables → Tables → Type 0} {d : T} {z : C} (t : AnswersCall {E = G} lender state R c d (Ok z)) where
       pub and_three : {D H I J : Type 0} {S : D → Tables → Tables → Type 0} {U : I → Tables → Tables → Type 0} {e : T} {s : Result D H} {r : Result I J}
-          → Answers lender state S d e s
+          → AnswersCall lender state S d e s
           → (Steps (P x) (state a) (state b) → Steps (Q y) (state b) (state c) → Steps (R z) (state c) (state d)
           → IfOk s (λ w. Steps (S w) (state d) (state e)) → IfOk r (λ v. Steps (U v) (state a) (state e)))
-          → Answers lender state U a e r
+          → AnswersCall lender state U a e r
       and_three u f = record {
         stays = stays_then (stays_three t) (λ inside clean. (on_three inside clean).2.inside) u.stays;
         made = λ inside clean. let three = on_three inside (clean_before u.stays clean) in f three.0 three.1 three.2 (u.made three.2.inside clean);
@@ -209,10 +209,10 @@ module _ {T A E : Type 0} {lender : T → ℕ × ℕ} {state : T → State} {P :
 
 module _ {T A B E F : Type 0} {lender : T → ℕ × ℕ} {state : T → State} (N : A → Tables → Type 0) {step : Tables → Tables → Type 0} {a b c : T} {x : A}
     {s : Result B F} where
-  pub and_given : Answers {E = E} lender state (λ one. Finds (N one)) a b (Ok x) → Writes lender state (MadeFrom (N x) step) b c s → Writes lender state step a c s
+  pub and_given : AnswersCall {E = E} lender state (λ one. Finds (N one)) a b (Ok x) → Writes lender state (MadeFrom (N x) step) b c s → Writes lender state step a c s
   and_given p q = and_then p q (λ found does. if_then s (λ _. found_then (N x) step (state a) (state b) (state c) found) does)
 
-  pub and_known : (K : Tables → Type 0) → Answers {E = E} lender state (λ one. Finds (λ t. K t → N one t)) a b (Ok x)
+  pub and_known : (K : Tables → Type 0) → AnswersCall {E = E} lender state (λ one. Finds (λ t. K t → N one t)) a b (Ok x)
       → Writes lender state (MadeFrom (N x) step) b c s → Writes lender state (MadeFrom K step) a c s
   and_known K p q = and_then p q (λ found does. if_then s (λ _. known_then K (N x) step (state a) (state b) (state c) found) does)
 

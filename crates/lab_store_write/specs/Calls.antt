@@ -32,7 +32,7 @@ pub record Stays {T : Type 0} (lender : T → ℕ × ℕ) (state : T → State) 
 
 -- so does a call that answers; where a transaction was under way and it answered well, it made the
 -- step that belongs to the answer
-pub record Answers {T A E : Type 0} (lender : T → ℕ × ℕ) (state : T → State)
+pub record AnswersCall {T A E : Type 0} (lender : T → ℕ × ℕ) (state : T → State)
     (step : A → Tables → Tables → Type 0) (old new : T) (result : Result A E) : Type 0 where
   pub stays : Stays lender state old new
   pub made : IsTrue (state old).in_transaction → HasCleanDisk (state new)
@@ -41,7 +41,7 @@ pub record Answers {T A E : Type 0} (lender : T → ℕ × ℕ) (state : T → S
 -- a call that makes one step, whatever it answers
 abbrev pub Writes : {T A E : Type 0} → (T → ℕ × ℕ) → (T → State) → (Tables → Tables → Type 0)
     → T → T → Result A E → Type 0
-Writes lender state step old new result = Answers lender state (λ _. step) old new result
+Writes lender state step old new result = AnswersCall lender state (λ _. step) old new result
 
 -- a step that makes these tables of those before
 abbrev pub Becomes : (Tables → Tables) → Tables → Tables → Type 0

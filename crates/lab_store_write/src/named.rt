@@ -2,7 +2,7 @@
 
 ghost use Rattle.std.specs.Prelude.{◌≡◌, Some, option_map, slice_get, IfOk, IfSome};
 ghost use Rattle.lab_store_tables.specs.Changes.{person_named, IsNamedIfAny};
-ghost use Rattle.lab_store_write.specs.Calls.{Answers, Finds};
+ghost use Rattle.lab_store_write.specs.Calls.{AnswersCall, Finds};
 ghost use Rattle.lab_store_write.specs.Ids.{row_id, id_read};
 ghost use Rattle.lab_store_write.specs.Shown.{persons_shown};
 
@@ -38,7 +38,7 @@ pub fn first_id(rows: &[Row]) -> Result<RowId, Error>
 
 // The rows of the person with the code, in the laboratory.
 fn person_rows<W: Writable>(tx: &mut W, lab: RowId, code: &str) -> Result<Vec<Row>, Error>
-    ensures { Answers W.lender W.state
+    ensures { AnswersCall W.lender W.state
         (λ rows. Finds (λ t. rows.items ≡ persons_shown lab.id code.now t)) tx.old tx.new result }
 {
     tx.query_all(
@@ -52,7 +52,7 @@ fn person_rows<W: Writable>(tx: &mut W, lab: RowId, code: &str) -> Result<Vec<Ro
 /// # Errors
 /// The errors of `Writable`, or no such row exists.
 pub fn person_id_at<W: Writable>(tx: &mut W, lab: RowId, code: &PersonCode) -> Result<RowId, Error>
-    ensures { Answers W.lender W.state
+    ensures { AnswersCall W.lender W.state
         (λ one. Finds (λ t. person_named t lab.id code.now ≡ Some one.id)) tx.old tx.new result }
 {
     let rows = person_rows(tx, lab, code.as_str())?;
@@ -81,7 +81,7 @@ pub fn person_id_by<W: Writable>(
     person: Option<RowId>,
     code: &PersonCode,
 ) -> Result<RowId, Error>
-    ensures { Answers W.lender W.state (λ one. Finds (λ t.
+    ensures { AnswersCall W.lender W.state (λ one. Finds (λ t.
         IsNamedIfAny t lab.id known.now (option_map row_id person) →
         person_named t lab.id code.now ≡ Some one.id)) tx.old tx.new result }
 {
@@ -100,7 +100,7 @@ pub fn person_if_any<W: Writable>(
     lab: RowId,
     code: &Option<PersonCode>,
 ) -> Result<Option<RowId>, Error>
-    ensures { Answers W.lender W.state
+    ensures { AnswersCall W.lender W.state
         (λ one. Finds (λ t. IsNamedIfAny t lab.id code.now (option_map row_id one)))
         tx.old tx.new result }
 {

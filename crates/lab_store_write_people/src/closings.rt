@@ -4,7 +4,7 @@
 ghost use Rattle.std.specs.Prelude.{◌≡◌};
 ghost use Rattle.lab_people_access.specs.declared.sessions.Closing.TheVariants.{All, Others};
 ghost use Rattle.lab_store_tables.specs.Changes.{InTurn};
-ghost use Rattle.lab_store_write.specs.Calls.{Answers, Writes, Becomes, Finds};
+ghost use Rattle.lab_store_write.specs.Calls.{AnswersCall, Writes, Becomes, Finds};
 ghost use Rattle.lab_store_write_people.specs.Closings.{close_one, close_of, ClosesRow, ClosesOf, opened_shown};
 
 use lab_forms_texts::{Ordinal, PersonCode};
@@ -38,7 +38,7 @@ fn close_rows<W: Writable>(tx: &mut W, rows: &[Row]) -> Result<(), Error>
 
 // The open sessions of the person.
 fn all_rows<W: Writable>(tx: &mut W, person: RowId) -> Result<Vec<Row>, Error>
-    ensures { Answers W.lender W.state
+    ensures { AnswersCall W.lender W.state
         (λ rows. Finds (λ t. rows.items ≡ opened_shown person.id All t)) tx.old tx.new result }
 {
     tx.query_all(
@@ -49,7 +49,7 @@ fn all_rows<W: Writable>(tx: &mut W, person: RowId) -> Result<Vec<Row>, Error>
 
 // The open sessions of the person, except the one with the number.
 fn other_rows<W: Writable>(tx: &mut W, person: RowId, kept: Ordinal) -> Result<Vec<Row>, Error>
-    ensures { Answers W.lender W.state
+    ensures { AnswersCall W.lender W.state
         (λ rows. Finds (λ t. rows.items ≡ opened_shown person.id (Others kept) t))
         tx.old tx.new result }
 {

@@ -2,7 +2,7 @@
 
 ghost use Rattle.std.specs.Prelude.{◌≡◌, Some, option_map};
 ghost use Rattle.lab_store_tables.specs.Changes.{person_named, IsNamedIfAny, AddsPerson, SetsPerson, person_row_of, set_person as with_row};
-ghost use Rattle.lab_store_write.specs.Calls.{Answers, Writes, Becomes, Finds, MadeFrom};
+ghost use Rattle.lab_store_write.specs.Calls.{AnswersCall, Writes, Becomes, Finds, MadeFrom};
 ghost use Rattle.lab_store_write.specs.Ids.{row_id};
 ghost use Rattle.lab_store_write_people.specs.Persons.{asker_in, with_person};
 
@@ -23,7 +23,7 @@ fn asker_if_any<W: Writable>(
     lab: RowId,
     ask: &Option<Ask>,
 ) -> Result<Option<RowId>, Error>
-    ensures { Answers W.lender W.state (λ one. Finds (λ t.
+    ensures { AnswersCall W.lender W.state (λ one. Finds (λ t.
         IsNamedIfAny t lab.id (option_map asker_in ask.now) (option_map row_id one)))
         tx.old tx.new result }
 {

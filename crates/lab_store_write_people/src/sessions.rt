@@ -3,7 +3,7 @@
 ghost use Rattle.std.specs.Prelude.{◌≡◌, Some};
 ghost use Rattle.lab_store_tables.specs.Rows.{LabRow};
 ghost use Rattle.lab_store_tables.specs.Changes.{in_lab, person_named, AddsSession, SetsSession};
-ghost use Rattle.lab_store_write.specs.Calls.{Answers, Writes, Becomes, MadeFrom};
+ghost use Rattle.lab_store_write.specs.Calls.{AnswersCall, Writes, Becomes, MadeFrom};
 ghost use Rattle.lab_store_write_people.specs.Added.{with_session, SetsIfAny};
 
 use lab_forms_texts::Ordinal;
@@ -73,7 +73,7 @@ fn update_session<W: Writable>(
     person: RowId,
     session: &Session,
 ) -> Result<usize, Error>
-    ensures { Answers W.lender W.state (SetsIfAny lab.id person.id session.now)
+    ensures { AnswersCall W.lender W.state (SetsIfAny lab.id person.id session.now)
         tx.old tx.new result }
 {
     let token = session.token.bytes();

@@ -18,7 +18,7 @@ use Rattle.lab_store_read.proofs.Sorted.{equal_ints, equal_numbers, and_true}
 use Rattle.lab_store_write.specs.Calls.{Steps, Finds}
 use Rattle.lab_store_write.proofs.Inside.{steps_weaker}
 use Rattle.lab_store_write.proofs.Lookups.{by_key_query, rows_by_key}
-use Rattle.lab_store_write_records.specs.VersionsShown.{records_shown, is_entry_of, is_signature_of, record_read, record_pair}
+use Rattle.lab_store_write_records.specs.VersionsShown.{records_shown, is_entry_of, is_signature_of, record_key_of, record_pair}
 use Rattle.lab_store_write_records.proofs.VersionsShownWords.{entries_shown, signatures_shown}
 
 -- ---- a record, with its current version
@@ -44,23 +44,23 @@ records_read old new lab wanted rows typed h =
     old new typed.schema refl rows h
 
 first_record : (lab : ℤ) (wanted : ℕ) (t : Tables)
-    → option_map record_read (slice_get (records_shown lab wanted t) 0) ≡ option_map record_pair (record_named t lab wanted)
+    → option_map record_key_of (slice_get (records_shown lab wanted t) 0) ≡ option_map record_pair (record_named t lab wanted)
 first_record lab wanted t = go (filter (is_record_row lab wanted) t.records)
     ∙ ap (option_map record_pair) (slice_get-filter (is_record_row lab wanted) t.records)
   where
-    go : (found : List RecordRow) → option_map record_read (slice_get (map (λ (one : RecordRow). Int one.id ∷ number one.current ∷ []) found) 0)
+    go : (found : List RecordRow) → option_map record_key_of (slice_get (map (λ (one : RecordRow). Int one.id ∷ number one.current ∷ []) found) 0)
         ≡ option_map record_pair (slice_get found 0)
     go [] = refl
     go (one ∷ more) = refl
 
 pub record_found : (lab : ℤ) (given wanted : ℕ) (shown rows : List Row) (pair : ℤ × ℕ) (old new : State) → given ≡ wanted → shown ≡ rows
     → Steps (Finds (λ t. rows ≡ records_shown lab given t)) old new
-    → option_map record_read (slice_get shown 0) ≡ Some pair → Steps (Finds (λ t. option_map record_pair (record_named t lab wanted) ≡ Some pair)) old new
+    → option_map record_key_of (slice_get shown 0) ≡ Some pair → Steps (Finds (λ t. option_map record_pair (record_named t lab wanted) ≡ Some pair)) old new
 record_found lab given wanted shown rows pair old new same slice it first =
     steps_weaker (Finds (λ t. rows ≡ records_shown lab given t)) (Finds (λ t. option_map record_pair (record_named t lab wanted) ≡ Some pair)) old new
     (λ before after found. (
       ap (λ (n : ℕ). option_map record_pair (record_named before lab n)) (sym same) ∙ sym (first_record lab given before)
-          ∙ ap (λ (l : List Row). option_map record_read (slice_get l 0)) (sym (slice ∙ found.0)) ∙ first,
+          ∙ ap (λ (l : List Row). option_map record_key_of (slice_get l 0)) (sym (slice ∙ found.0)) ∙ first,
       found.1,
     ))
     it

@@ -9,7 +9,7 @@ use Rattle.lab_seal_versions.specs.declared.rows.EntryRow.{EntryRow as Entry}
 use Rattle.lab_records_kept.specs.declared.records.Signature.{Signature}
 use Rattle.lab_store_tables.proofs.KnownFile.{filled, file, entry, signature}
 use Rattle.lab_store_write_records.specs.EntriesAdded.{with_entry, with_signature}
-use Rattle.lab_store_write_records.specs.VersionsShown.{records_shown, current_of, version_in_record, versions_shown, record_read}
+use Rattle.lab_store_write_records.specs.VersionsShown.{records_shown, current_of, version_in_record, versions_shown, record_key_of}
 use Rattle.lab_store_write_records.proofs.VersionsShownWords.{entries_shown, signatures_shown}
 
 -- a row that shows an id
@@ -20,7 +20,7 @@ shown id = Int id ∷ []
 
 -- of the one laboratory and the number alone
 pub known_keys : (records_shown (pos 7) 1 file ≡ (Int (pos 3) ∷ Int (pos 2) ∷ []) ∷ [])
-    × (records_shown (pos 3) 2 file ≡ []) × (record_read (Int (pos 3) ∷ Int (pos 2) ∷ []) ≡ (pos 3, 2))
+    × (records_shown (pos 3) 2 file ≡ []) × (record_key_of (Int (pos 3) ∷ Int (pos 2) ∷ []) ≡ (pos 3, 2))
 known_keys = (refl, refl, refl)
 
 -- the current version, or another one; NULL where the record has none of the number, and no row where there is no record

@@ -47,8 +47,8 @@ is_signature_of version one = int_eq one.version version
 
 -- ---- what is read of a row
 
-abbrev pub record_read : Row → ℤ × ℕ
-record_read row = (id_in (column row 0), number_in (column row 1))
+abbrev pub record_key_of : Row → ℤ × ℕ
+record_key_of row = (id_in (column row 0), number_in (column row 1))
 
 abbrev pub record_pair : RecordRow → ℤ × ℕ
 record_pair kept = (kept.id, kept.current)

@@ -6,7 +6,7 @@ ghost use Rattle.lab_records_kept.specs.declared.changes.Change.TheVariants.{For
 ghost use Rattle.lab_store_tables.specs.Rows.{form_id, field_id};
 ghost use Rattle.lab_store_tables.specs.Columns.{kind_names};
 ghost use Rattle.lab_store_tables.specs.Changes.{AppliesIn, InTurn, AddsChoice, AddsField};
-ghost use Rattle.lab_store_write.specs.Calls.{Answers, Writes, Becomes};
+ghost use Rattle.lab_store_write.specs.Calls.{AnswersCall, Writes, Becomes};
 ghost use Rattle.lab_store_write_records.specs.FormsAdded.{with_choice, with_field, with_form};
 
 use crate::kinds::{
@@ -73,7 +73,7 @@ fn add_kind<W: Writable>(tx: &mut W, field: RowId, kind: &Kind) -> Result<(), Er
 
 // Adds the row.
 fn insert_form<W: Writable>(tx: &mut W, lab: RowId, form: &FormVersion) -> Result<RowId, Error>
-    ensures { Answers W.lender W.state (λ one before after.
+    ensures { AnswersCall W.lender W.state (λ one before after.
         (one.id ≡ next_key form_id before.forms)
         × (after ≡ with_form lab.id form.now before))
         tx.old tx.new result }
@@ -99,7 +99,7 @@ fn insert_field<W: Writable>(
     place: u64,
     field: &Field,
 ) -> Result<RowId, Error>
-    ensures { Answers W.lender W.state (λ one before after.
+    ensures { AnswersCall W.lender W.state (λ one before after.
         (one.id ≡ next_key field_id before.fields)
         × (after ≡ with_field form.id place field.now before))
         tx.old tx.new result }

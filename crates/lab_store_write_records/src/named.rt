@@ -3,8 +3,8 @@
 ghost use Rattle.std.specs.Prelude.{◌≡◌, Some, option_map, slice_get, IfOk};
 ghost use Rattle.sqlite_value.specs.declared.value.Value.TheVariants.{Int};
 ghost use Rattle.lab_store_tables.specs.Changes.{record_named};
-ghost use Rattle.lab_store_write.specs.Calls.{Answers, Finds};
-ghost use Rattle.lab_store_write_records.specs.VersionsShown.{records_shown, record_read, record_pair, current_of, version_in_record, versions_shown, first_value};
+ghost use Rattle.lab_store_write.specs.Calls.{AnswersCall, Finds};
+ghost use Rattle.lab_store_write_records.specs.VersionsShown.{records_shown, record_key_of, record_pair, current_of, version_in_record, versions_shown, first_value};
 
 use lab_forms_texts::Ordinal;
 use lab_store_write::values::{id_value, ordinal_value};
@@ -22,7 +22,7 @@ pub struct RecordAt {
 
 // The record that a row shows.
 fn record_of(row: &Row) -> Result<RecordAt, Error>
-    ensures { IfOk result (λ one. (one.id.id, one.current) ≡ record_read row.now) }
+    ensures { IfOk result (λ one. (one.id.id, one.current) ≡ record_key_of row.now) }
 {
     let id = row.get(0)?;
     let current = row.get(1)?;
@@ -35,7 +35,7 @@ fn record_of(row: &Row) -> Result<RecordAt, Error>
 // The record that the first row shows. Fails if there is no row, because no record is named then.
 fn first_record(rows: &[Row]) -> Result<RecordAt, Error>
     ensures { IfOk result (λ one.
-        option_map record_read (slice_get rows.now 0) ≡ Some (one.id.id, one.current)) }
+        option_map record_key_of (slice_get rows.now 0) ≡ Some (one.id.id, one.current)) }
 {
     match rows.first() {
         Some(row) => Ok(record_of(row)?),
@@ -45,7 +45,7 @@ fn first_record(rows: &[Row]) -> Result<RecordAt, Error>
 
 // The rows of the record with the number, in the laboratory.
 fn record_rows<W: Writable>(tx: &mut W, lab: RowId, wanted: Ordinal) -> Result<Vec<Row>, Error>
-    ensures { Answers W.lender W.state
+    ensures { AnswersCall W.lender W.state
         (λ rows. Finds (λ t. rows.items ≡ records_shown lab.id wanted t)) tx.old tx.new result }
 {
     tx.query_all(
@@ -59,7 +59,7 @@ fn record_rows<W: Writable>(tx: &mut W, lab: RowId, wanted: Ordinal) -> Result<V
 /// # Errors
 /// The errors of `Writable`, or no such row exists.
 pub fn record_at<W: Writable>(tx: &mut W, lab: RowId, wanted: Ordinal) -> Result<RecordAt, Error>
-    ensures { Answers W.lender W.state (λ one. Finds (λ t.
+    ensures { AnswersCall W.lender W.state (λ one. Finds (λ t.
         option_map record_pair (record_named t lab.id wanted) ≡ Some (one.id.id, one.current)))
         tx.old tx.new result }
 {
@@ -85,7 +85,7 @@ fn first_version(rows: &[Row]) -> Result<RowId, Error>
 
 // The rows of the current version of the record with the number, in the laboratory.
 fn current_rows<W: Writable>(tx: &mut W, lab: RowId, wanted: Ordinal) -> Result<Vec<Row>, Error>
-    ensures { Answers W.lender W.state
+    ensures { AnswersCall W.lender W.state
         (λ rows. Finds (λ t. rows.items ≡ versions_shown current_of lab.id wanted t))
         tx.old tx.new result }
 {
@@ -104,7 +104,7 @@ pub(crate) fn current_version_at<W: Writable>(
     lab: RowId,
     wanted: Ordinal,
 ) -> Result<RowId, Error>
-    ensures { Answers W.lender W.state
+    ensures { AnswersCall W.lender W.state
         (λ one. Finds (λ t. version_in_record current_of t lab.id wanted ≡ Some one.id))
         tx.old tx.new result }
 {
@@ -119,7 +119,7 @@ fn version_rows<W: Writable>(
     wanted: Ordinal,
     version: Ordinal,
 ) -> Result<Vec<Row>, Error>
-    ensures { Answers W.lender W.state
+    ensures { AnswersCall W.lender W.state
         (λ rows. Finds (λ t. rows.items ≡ versions_shown (λ _. version) lab.id wanted t))
         tx.old tx.new result }
 {
@@ -139,7 +139,7 @@ pub(crate) fn version_at<W: Writable>(
     wanted: Ordinal,
     version: Ordinal,
 ) -> Result<RowId, Error>
-    ensures { Answers W.lender W.state
+    ensures { AnswersCall W.lender W.state
         (λ one. Finds (λ t. version_in_record (λ _. version) t lab.id wanted ≡ Some one.id))
         tx.old tx.new result }
 {

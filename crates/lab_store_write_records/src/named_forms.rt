@@ -2,7 +2,7 @@
 
 ghost use Rattle.std.specs.Prelude.{◌≡◌, Some};
 ghost use Rattle.lab_store_tables.specs.Changes.{form_named};
-ghost use Rattle.lab_store_write.specs.Calls.{Answers, Finds};
+ghost use Rattle.lab_store_write.specs.Calls.{AnswersCall, Finds};
 ghost use Rattle.lab_store_write_records.specs.FormsShown.{forms_shown};
 
 use lab_forms_texts::{Key, Ordinal};
@@ -17,7 +17,7 @@ fn form_rows<W: Writable>(
     code: &str,
     version: Ordinal,
 ) -> Result<Vec<Row>, Error>
-    ensures { Answers W.lender W.state
+    ensures { AnswersCall W.lender W.state
         (λ rows. Finds (λ t. rows.items ≡ forms_shown lab.id code.now version t))
         tx.old tx.new result }
 {
@@ -37,7 +37,7 @@ pub(crate) fn form_id_at<W: Writable>(
     code: &Key,
     version: Ordinal,
 ) -> Result<RowId, Error>
-    ensures { Answers W.lender W.state
+    ensures { AnswersCall W.lender W.state
         (λ one. Finds (λ t. form_named t lab.id code.now version ≡ Some one.id))
         tx.old tx.new result }
 {

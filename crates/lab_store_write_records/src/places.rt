@@ -1,7 +1,7 @@
 //! The place after the rows that a parent has.
 
 ghost use Rattle.std.specs.Prelude.{◌≡◌, ◌+◌, filter, length};
-ghost use Rattle.lab_store_write.specs.Calls.{Answers, Finds};
+ghost use Rattle.lab_store_write.specs.Calls.{AnswersCall, Finds};
 ghost use Rattle.lab_store_write_records.specs.FieldsShown.{is_field_of, is_choice_of};
 ghost use Rattle.lab_store_write_records.specs.VersionsShown.{is_entry_of, is_signature_of};
 
@@ -13,7 +13,7 @@ use sqlite::Error;
 /// # Errors
 /// The store failed, or memory ran out.
 pub(crate) fn field_place<W: Writable>(tx: &mut W, parent: RowId) -> Result<u64, Error>
-    ensures { Answers W.lender W.state
+    ensures { AnswersCall W.lender W.state
         (λ place. Finds (λ t. place ≡ length (filter (is_field_of parent.id) t.fields) + 1))
         tx.old tx.new result }
 {
@@ -29,7 +29,7 @@ pub(crate) fn field_place<W: Writable>(tx: &mut W, parent: RowId) -> Result<u64,
 /// # Errors
 /// The store failed, or memory ran out.
 pub(crate) fn choice_place<W: Writable>(tx: &mut W, parent: RowId) -> Result<u64, Error>
-    ensures { Answers W.lender W.state
+    ensures { AnswersCall W.lender W.state
         (λ place. Finds (λ t. place ≡ length (filter (is_choice_of parent.id) t.choices) + 1))
         tx.old tx.new result }
 {
@@ -45,7 +45,7 @@ pub(crate) fn choice_place<W: Writable>(tx: &mut W, parent: RowId) -> Result<u64
 /// # Errors
 /// The store failed, or memory ran out.
 pub(crate) fn entry_place<W: Writable>(tx: &mut W, parent: RowId) -> Result<u64, Error>
-    ensures { Answers W.lender W.state
+    ensures { AnswersCall W.lender W.state
         (λ place. Finds (λ t. place ≡ length (filter (is_entry_of parent.id) t.entries) + 1))
         tx.old tx.new result }
 {
@@ -61,7 +61,7 @@ pub(crate) fn entry_place<W: Writable>(tx: &mut W, parent: RowId) -> Result<u64,
 /// # Errors
 /// The store failed, or memory ran out.
 pub(crate) fn signature_place<W: Writable>(tx: &mut W, parent: RowId) -> Result<u64, Error>
-    ensures { Answers W.lender W.state
+    ensures { AnswersCall W.lender W.state
         (λ place. Finds (λ t. place ≡ length (filter (is_signature_of parent.id) t.signatures) + 1))
         tx.old tx.new result }
 {

@@ -5,7 +5,7 @@ ghost use Rattle.sqlite_keyed.specs.Keyed.{next_key};
 ghost use Rattle.lab_records_kept.specs.declared.changes.Change.TheVariants.{RecordAdded};
 ghost use Rattle.lab_store_tables.specs.Rows.{LabRow, record_id};
 ghost use Rattle.lab_store_tables.specs.Changes.{AppliesIn, in_lab, InTurn, AddsVersion};
-ghost use Rattle.lab_store_write.specs.Calls.{Answers, Writes, Becomes};
+ghost use Rattle.lab_store_write.specs.Calls.{AnswersCall, Writes, Becomes};
 ghost use Rattle.lab_store_write_records.specs.RecordsAdded.{with_record};
 
 use crate::named_forms::form_id_at;
@@ -25,7 +25,7 @@ fn insert_record<W: Writable>(
     form: RowId,
     kept: &Record,
 ) -> Result<RowId, Error>
-    ensures { Answers W.lender W.state (λ one before after.
+    ensures { AnswersCall W.lender W.state (λ one before after.
         (one.id ≡ next_key record_id before.records)
         × (after ≡ with_record lab.id form.id kept.now before))
         tx.old tx.new result }

@@ -6,7 +6,7 @@ ghost use Rattle.lab_records_kept.specs.declared.changes.Change.TheVariants.{Ver
 ghost use Rattle.lab_store_tables.specs.Rows.{version_id};
 ghost use Rattle.lab_store_tables.specs.Columns.{format_number};
 ghost use Rattle.lab_store_tables.specs.Changes.{AppliesIn, InTurn, AddsEntry, AddsSignature, AddsVersion, set_current as with_current};
-ghost use Rattle.lab_store_write.specs.Calls.{Answers, Writes, Becomes};
+ghost use Rattle.lab_store_write.specs.Calls.{AnswersCall, Writes, Becomes};
 ghost use Rattle.lab_store_write_records.specs.RecordsAdded.{with_version};
 
 use crate::reason_texts::cause_or_null;
@@ -37,7 +37,7 @@ fn insert_version<W: Writable>(
     opener: RowId,
     version: &Version,
 ) -> Result<RowId, Error>
-    ensures { Answers W.lender W.state (λ one before after.
+    ensures { AnswersCall W.lender W.state (λ one before after.
         (one.id ≡ next_key version_id before.versions)
         × (after ≡ with_version kept.id opener.id version.now before))
         tx.old tx.new result }

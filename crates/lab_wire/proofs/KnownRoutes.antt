@@ -13,7 +13,7 @@ use Rattle.lab_wire.specs.declared.routes.Route.TheVariants.{Card, Persons, Form
 use Rattle.lab_wire.specs.Numbers.{ordinal_in}
 use Rattle.lab_wire.specs.Paths.{path_of, query_of, behind, segments}
 use Rattle.lab_wire.specs.Queries.{range_in}
-use Rattle.lab_wire.specs.Routes.{admits, is_place, row_of, route_of, destination_of}
+use Rattle.lab_wire.specs.Routes.{admits, is_place, route_row, route_of, destination_of}
 use Rattle.lab_wire.specs.Commands.{reads_in, command_at}
 
 -- a path ends before the first question mark
@@ -61,7 +61,7 @@ pub known_commands : (route_of (codes "GET") ([]) ≡ Ok Card)
     × (route_of (codes "POST") (codes "/retire") ≡ Ok (Posted Retire))
     × (route_of (codes "POST") (codes "/unlock") ≡ Ok (Posted Unlock))
     × (route_of (codes "POST") (codes "/forms") ≡ Ok (Posted MakeForm))
-unfolding route_of is_place row_of admits is_key ordinal_in digits segments
+unfolding route_of is_place route_row admits is_key ordinal_in digits segments
 known_commands = (refl, refl, refl, refl, refl, refl, refl, refl, refl, refl, refl, refl)
 
 -- and the rows of forms, records, the trail and copies
@@ -75,7 +75,7 @@ pub known_commands_of_records : (route_of (codes "GET") (codes "/forms/water_2/3
     × (route_of (codes "GET") (codes "/records") ≡ Ok Records)
     × (route_of (codes "GET") (codes "/trail") ≡ Ok Trail)
     × (route_of (codes "GET") (codes "/copy") ≡ Ok Copy)
-unfolding route_of is_place row_of admits is_key ordinal_in digits segments
+unfolding route_of is_place route_row admits is_key ordinal_in digits segments
 known_commands_of_records = (refl, refl, refl, refl, refl, refl, refl, refl, refl, refl)
 
 -- what is no place
@@ -95,7 +95,7 @@ pub known_elsewhere : (route_of (codes "GET") (codes "/") ≡ Err NoRoute)
     × (route_of (codes "GET") (codes "/Persons") ≡ Err NoRoute)
     × (route_of (codes "GET") (codes "/copies") ≡ Err NoRoute)
     × (route_of (codes "GET") (codes "/copy/1") ≡ Err NoRoute)
-unfolding route_of is_place row_of admits is_key ordinal_in digits segments
+unfolding route_of is_place route_row admits is_key ordinal_in digits segments
 known_elsewhere = (refl, refl, refl, refl, refl, refl, refl, refl, refl, refl, refl, refl, refl, refl, refl, refl)
 
 -- the methods of a place, which is looked at first
@@ -108,7 +108,7 @@ pub known_methods : (route_of (codes "PUT") (codes "/persons") ≡ Err (Method G
     × (route_of (codes "PUT") (codes "/records/0") ≡ Err NoRoute)
     × (route_of (codes "PUT") (codes "/copy") ≡ Err (Method GetAlone))
     × (route_of (codes "PUT") (codes "/copies") ≡ Err NoRoute)
-unfolding route_of is_place row_of admits is_key ordinal_in digits segments
+unfolding route_of is_place route_row admits is_key ordinal_in digits segments
 known_methods = (refl, refl, refl, refl, refl, refl, refl, refl, refl)
 
 -- where a target goes
@@ -122,7 +122,7 @@ pub known_destinations : (destination_of (codes "GET") (codes "/labs/aqua") ≡ 
     × (destination_of (codes "GET") (codes "/labs/aqua/") ≡ Err NoRoute)
     × (destination_of (codes "GET") (codes "/lab/aqua") ≡ Err NoRoute)
     × (destination_of (codes "PUT") (codes "/labs/aqua/trail#a") ≡ Err NoRoute)
-unfolding destination_of behind is_lab_code route_of is_place row_of admits is_key ordinal_in digits segments
+unfolding destination_of behind is_lab_code route_of is_place route_row admits is_key ordinal_in digits segments
 known_destinations = (refl, refl, refl, refl, refl, refl, refl, refl, refl, refl)
 
 -- exactly from=A&to=B, at most a hundred numbers

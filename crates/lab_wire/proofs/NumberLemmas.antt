@@ -4,7 +4,7 @@ use Rattle.std.specs.Prelude.{◌&&◌}
 use Rattle.std.specs.Str.Parse.{digits_value}
 use Rattle.std.proofs.lemmas.Grind.{common_steps}
 use Rattle.lab_forms_texts.specs.Ordinals.{ordinal_of}
-use Rattle.lab_seal.specs.Reading.{number_of}
+use Rattle.lab_seal.specs.Reading.{number_written}
 use Rattle.lab_wire.specs.Numbers.{ordinal_in}
 
 some_spelled : (v n : ℕ) (b s : Bool) → cond (b && s) (Some v) None ≡ Some n → cond s (ordinal_of v) None ≡ ordinal_of n
@@ -24,12 +24,12 @@ none_spelled v false true is e =
     let large : 2 ^ 64 ≤ v = grind (arith, common_steps) in
     over_last v (omega arith)
 
-pub ordinal_read : (digits : List ℕ) (n : ℕ) → number_of digits ≡ Some n → ordinal_in digits ≡ ordinal_of n
-unfolding number_of ordinal_in
+pub ordinal_read : (digits : List ℕ) (n : ℕ) → number_written digits ≡ Some n → ordinal_in digits ≡ ordinal_of n
+unfolding number_written ordinal_in
 ordinal_read digits n is = some_spelled (digits_value 10 digits) n _ _ is
 
-pub no_ordinal : (digits : List ℕ) → number_of digits ≡ None → ordinal_in digits ≡ None
-unfolding number_of ordinal_in
+pub no_ordinal : (digits : List ℕ) → number_written digits ≡ None → ordinal_in digits ≡ None
+unfolding number_written ordinal_in
 no_ordinal digits is = none_spelled (digits_value 10 digits) _ _ refl is
 
 ordinal_found : (v n : ℕ) (s o : Bool) → cond s (cond o (Some v) None) None ≡ Some n → n ≡ v

@@ -12,7 +12,7 @@ use Rattle.lab_wire.specs.declared.route_refusals.RouteRefusal.{RouteRefusal}
 use Rattle.lab_wire.specs.declared.route_refusals.RouteRefusal.TheVariants.{NoRoute}
 use Rattle.lab_wire.specs.declared.routes.Route.{Route}
 use Rattle.lab_wire.specs.Paths.{segments}
-use Rattle.lab_wire.specs.Routes.{Row, routes, get_method, post_method, all_admitted, is_row_to, is_place, is_row, row_of, allowed, route_or_allowed, route_of}
+use Rattle.lab_wire.specs.Routes.{Row, routes, get_method, post_method, all_admitted, is_row_to, is_place, is_row, route_row, allowed, route_or_allowed, route_of}
 use Rattle.lab_wire.specs.Places.{place_at, texts, is_at, is_to, place_to, allowed_by, route_or_methods}
 use Rattle.lab_wire.proofs.PlaceWords.{route_in}
 use Rattle.lab_wire.specs.Router.{text_at, router_of_table}
@@ -257,14 +257,14 @@ route_there rows some within all two method place one here of alone =
 at_table : (method place one : List ℕ) → list_any (bytes_eq one) texts ≡ true → is_of_text place one ≡ true
     → ((text : List ℕ) → list_any (bytes_eq text) texts ≡ true → is_of_text place text ≡ true → one ≡ text)
     → route_of method place ≡ route_in method (Some (place_at one))
-unfolding route_of is_place row_of
+unfolding route_of is_place route_row
 at_table method place one here of alone = route_there routes texts refl refl refl method place one here of alone
 
 off_table : (method place : List ℕ) → ((text : List ℕ) → list_any (bytes_eq text) texts ≡ true → is_of_text place text ≡ true → ⊥)
     → route_of method place ≡ Err NoRoute
 unfolding route_of is_place
 off_table method place none =
-    ap (λ v. cond v (route_or_allowed (row_of method place) (allowed place)) (Err NoRoute)) (rows_within texts routes refl place none)
+    ap (λ v. cond v (route_or_allowed (route_row method place) (allowed place)) (Err NoRoute)) (rows_within texts routes refl place none)
 
 module _ (method place : List ℕ) (begins : Begins place) where
   route_by : (found : Found) (v : Bool) → first router_of_table place ≡ Some found → is_of_text place (text_at found.value) ≡ v

@@ -9,7 +9,7 @@ use Rattle.lab_wire.specs.declared.route_refusals.Allowed.{Allowed}
 use Rattle.lab_wire.specs.declared.routes.Route.{Route}
 use Rattle.lab_wire.specs.Numbers.{ordinal_in}
 use Rattle.lab_wire.specs.Paths.{lab_in, place_in, segments, behind, labs_prefix, path_of, query_of}
-use Rattle.lab_wire.specs.Routes.{Row, Destination, routes, all_admitted, admits, is_row, is_place, row_of, allowed, route_of, route_or_allowed, destination_at, destination_in, destination_of}
+use Rattle.lab_wire.specs.Routes.{Row, Destination, routes, all_admitted, admits, is_row, is_place, route_row, allowed, route_of, route_or_allowed, destination_at, destination_in, destination_of}
 use Rattle.lab_wire.specs.Commands.{Admitted}
 
 some_of : {A : Type 0} (o : Option A) → is_some o ≡ true → IsSome o
@@ -86,9 +86,9 @@ rows_admit method place =
 
 -- ---- where a request goes
 
-route_found : (method place : List ℕ) (route : Route) (methods : Allowed) (found : Option Row) → row_of method place ≡ found
+route_found : (method place : List ℕ) (route : Route) (methods : Allowed) (found : Option Row) → route_row method place ≡ found
     → route_or_allowed found methods ≡ Ok route → Admitted route place
-unfolding row_of
+unfolding route_row
 route_found method place route methods None is goes = absurd (cc)
 route_found method place route methods (Some row) is goes =
     let same : row.route ≡ route = cc in
@@ -96,8 +96,8 @@ route_found method place route methods (Some row) is goes =
     (found_in (is_row method place) (λ r. Admitted r.route place) routes row is (rows_admit method place))
 
 place_found : (method place : List ℕ) (route : Route) (b : Bool)
-    → cond b (route_or_allowed (row_of method place) (allowed place)) (Err NoRoute) ≡ Ok route → Admitted route place
-place_found method place route true goes = route_found method place route (allowed place) (row_of method place) refl goes
+    → cond b (route_or_allowed (route_row method place) (allowed place)) (Err NoRoute) ≡ Ok route → Admitted route place
+place_found method place route true goes = route_found method place route (allowed place) (route_row method place) refl goes
 place_found method place route false goes = absurd (cc)
 
 route_goes : (method place : List ℕ) (route : Route) → route_of method place ≡ Ok route → Admitted route place

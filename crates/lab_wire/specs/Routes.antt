@@ -102,11 +102,11 @@ abbrev pub is_row : List ℕ → List ℕ → Row → Bool
 is_row method place row = bytes_eq row.method method && is_row_to place row
 
 -- the row by a method to a place
-unfoldable pub row_of : List ℕ → List ℕ → Option Row
-row_of method place = find (is_row method place) routes
+unfoldable pub route_row : List ℕ → List ℕ → Option Row
+route_row method place = find (is_row method place) routes
 
 abbrev pub has_row : List ℕ → List ℕ → Bool
-has_row method place = is_some (row_of method place)
+has_row method place = is_some (route_row method place)
 
 -- the methods that a place has rows for
 abbrev pub allowed : List ℕ → Allowed
@@ -123,7 +123,7 @@ route_or_allowed (Some row) methods = Ok row.route
 -- one of its own
 unfoldable pub route_of : List ℕ → List ℕ → Result Route RouteRefusal
 route_of method place =
-    if is_place place then route_or_allowed (row_of method place) (allowed place) else Err NoRoute
+    if is_place place then route_or_allowed (route_row method place) (allowed place) else Err NoRoute
 
 -- ---- where a request goes
 

@@ -20,14 +20,14 @@ use Rattle.lab_wire_members.specs.Parts.{each_read}
 abbrev pub record_members : List MemberRule
 record_members = must (codes "form") Text ∷ must (codes "sample") Text ∷ []
 
-abbrev pub record_read : Data → Reading Command
-record_read d =
+abbrev pub record_command : Data → Reading Command
+record_command d =
     then_read (named_at is_key (codes "form") d) (λ form.
     then_read (named_at is_name (codes "sample") d) (λ sample.
     Ok (In (OnRecord (OpenRecord form sample)))))
 
 unfoldable pub record_named : Data → Reading Command
-record_named d = shaped (has_members record_members d) (record_read d)
+record_named d = shaped (has_members record_members d) (record_command d)
 
 -- a value: its field's key, its text and its unit
 abbrev pub item_members : List MemberRule

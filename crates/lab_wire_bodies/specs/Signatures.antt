@@ -20,15 +20,15 @@ use Rattle.lab_wire_members.specs.Members.{MemberRule, must, may, has_members, a
 use Rattle.lab_wire_members.specs.Readings.{Reading, then_read, wanted, text_at, named_if_at, shaped}
 
 -- a meaning with nothing beside it: the reason stands at a name of its own
-abbrev pub meaning_of : Meant → Meaning
-meaning_of Authorship = meaning.Authorship
-meaning_of Review = meaning.Review
-meaning_of Rejection = meaning.Rejection []
-meaning_of Approval = meaning.Approval
+abbrev pub bare_meaning_of : Meant → Meaning
+bare_meaning_of Authorship = meaning.Authorship
+bare_meaning_of Review = meaning.Review
+bare_meaning_of Rejection = meaning.Rejection []
+bare_meaning_of Approval = meaning.Approval
 
 -- its word
 abbrev pub meant_word : Meant → List ℕ
-meant_word meant = meaning_word (meaning_of meant)
+meant_word meant = meaning_word (bare_meaning_of meant)
 
 abbrev pub all_meant : List Meant
 all_meant = Authorship ∷ Review ∷ Rejection ∷ Approval ∷ []

@@ -64,18 +64,18 @@ roles_with roles (d ∷ ds) =
 abbrev pub roles_in : Data → Option RoleSet
 roles_in d = option_and_then (roles_with no_roles) (list_in d)
 
-abbrev pub is_text : Data → Bool
-is_text d = is_some (as_str d)
+abbrev pub is_text_member : Data → Bool
+is_text_member d = is_some (as_str d)
 
 -- a value of a kind
 abbrev pub is_of : MemberKind → Data → Bool
-is_of Text d = is_text d
+is_of Text d = is_text_member d
 is_of Flag d = is_some (as_bool d)
 is_of Ordinal d = is_some (ordinal_in d)
 is_of Whole d = is_some (whole_in d)
 is_of Digest d = is_some (digest_in d)
 is_of Roles d = is_some (roles_in d)
-is_of Texts d = option_map_or (list_all is_text) (list_in d) false
+is_of Texts d = option_map_or (list_all is_text_member) (list_in d) false
 is_of AnyList d = is_some (list_in d)
 
 -- ---- the members of an object

@@ -8,7 +8,7 @@ ghost use Rattle.lab_people_access.specs.declared.roles.Role.TheVariants.{Manage
 ghost use Rattle.lab_people_access.specs.Roles.{no_roles};
 ghost use Rattle.serde_json.specs.Find.{get, as_bool, as_str};
 ghost use Rattle.serde_json.specs.View.{view};
-ghost use Rattle.lab_wire_members.specs.Members.{whole_in, ordinal_in, digest_in, list_in, names_role, role_of, role_in, role_added, roles_with, roles_in, is_text, is_of, rule_shown, keeps, has_members, at, elements_at, each_has};
+ghost use Rattle.lab_wire_members.specs.Members.{whole_in, ordinal_in, digest_in, list_in, names_role, role_of, role_in, role_added, roles_with, roles_in, is_text_member, is_of, rule_shown, keeps, has_members, at, elements_at, each_has};
 
 use lab_forms_texts::Ordinal;
 use lab_people_access::{Role, Roles};
@@ -186,21 +186,21 @@ pub fn roles_in(value: &Value) -> Option<Roles>
     roles_of(list_in(value)?)
 }
 
-fn is_text(value: &Value) -> bool
-    ensures { result ≡ is_text (view value.now) }
+fn is_text_member(value: &Value) -> bool
+    ensures { result ≡ is_text_member (view value.now) }
 {
     value.as_str().is_some()
 }
 
 fn are_texts(values: &[Value]) -> bool
-    ensures { result ≡ list_all (λ value. is_text (view value)) values.now }
+    ensures { result ≡ list_all (λ value. is_text_member (view value)) values.now }
 {
-    values.iter().all(|value| is_text(value))
+    values.iter().all(|value| is_text_member(value))
 }
 
 #[tactic(auto, using(crate::proofs::MemberLemmas::all_of_views))]
 fn has_texts(value: &Value) -> bool
-    ensures { result ≡ option_map_or (list_all is_text) (list_in (view value.now)) false }
+    ensures { result ≡ option_map_or (list_all is_text_member) (list_in (view value.now)) false }
 {
     match list_in(value) {
         Some(list) => are_texts(list),
@@ -212,7 +212,7 @@ fn is_of(kind: MemberKind, value: &Value) -> bool
     ensures { result ≡ is_of kind (view value.now) }
 {
     match kind {
-        MemberKind::Text => is_text(value),
+        MemberKind::Text => is_text_member(value),
         MemberKind::Flag => value.as_bool().is_some(),
         MemberKind::Ordinal => ordinal_in(value).is_some(),
         MemberKind::Whole => whole_in(value).is_some(),

@@ -66,12 +66,12 @@ version_state_data version =
     )
 
 -- the number of a version
-abbrev pub number_of : VersionState → ℕ
-number_of version = version.version
+abbrev pub state_number : VersionState → ℕ
+state_number version = version.version
 
 -- the number of the last version, where there is one
 abbrev pub current_of : List VersionState → Option ℕ
-current_of versions = option_map number_of (slice_get versions (length versions - 1))
+current_of versions = option_map state_number (slice_get versions (length versions - 1))
 
 -- a record, with the version of its form
 abbrev pub record_data : RecordRead → Data

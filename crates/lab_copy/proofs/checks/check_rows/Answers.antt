@@ -3,7 +3,7 @@ use Rattle.std.proofs.Common.{◌∙◌, Bool, true, Err, sym, ap, subst, inl, a
 use Rattle.std.proofs.lemmas.Result.{err_from_is_err_and}
 use Rattle.csv.specs.Reading.{ReadRecord, reader_state, source_of}
 use Rattle.csv.specs.Records.{fields_of}
-use Rattle.lab_copy_lines.specs.Lines.{IsRead, line_at}
+use Rattle.lab_copy_lines.specs.Lines.{IsRowRead, line_at}
 use Rattle.lab_copy.proofs.CheckLemmas.{few_rows, next_none, next_unread, next_taken, next_fault}
 use Rattle.lab_copy.proofs.ReadLemmas.{record_reads, rows_next}
 use Rattle.lab_copy.proofs.checks.check_rows.Goals as goal
@@ -46,7 +46,7 @@ returns-in-Err-clause-verdict g c = λ found all.
     let read =
     subst (λ (was : Bool). ReadRecord g.R.Read.remaining c.loop-number.rows c.read_row.new.rows was (fields_of c.read_row.new.row))
     c.if-not-branch.false (c.in_ok-read_row.ensures.reads before.trim before.ready) in
-    let none = subst (λ edition. IsRead (line_at edition (fields_of c.read_row.new.row)) (Err c.in-Err.fault)) c.edition.ensures c.in-Err.ensures.value in
+    let none = subst (λ edition. IsRowRead (line_at edition (fields_of c.read_row.new.row)) (Err c.in-Err.fault)) c.edition.ensures c.in-Err.ensures.value in
     rw c.fault_at.ensures
     (next_unread g.R.Read.remaining found c.loop-number.rows c.read_row.new.rows (fields_of c.read_row.new.row) c.loop-number.kept
     c.loop-number.number before.config (before.left found all) read c.in-Err.fault none)

@@ -1,7 +1,7 @@
 use Rattle.std.proofs.Common.{w64, map, ap, ◌∙◌}
 use Rattle.std.proofs.lemmas.Int.{to_z-of_z}
 use Rattle.lab_store_read.proofs.Queries.{if_then}
-use Rattle.lab_move_tables.specs.Checks.{are_numbered}
+use Rattle.lab_move_tables.specs.Checks.{are_rows_numbered}
 use Rattle.lab_move_tables.proofs.OldReaders.{may_and}
 use Rattle.lab_move_read_people.specs.Kept.{where_kept}
 use Rattle.lab_move_read_records.specs.Forms.{field_read}
@@ -11,4 +11,4 @@ use Rattle.lab_move_read_records.proofs.fields.field_heads_at.Goals as goal
 pub returns : goal.returns
 returns g c =
     may_and (rw (to_z-of_z w64 c.args.form c.ranges.form) at c.in_ok-rows.ensures) (λ t file rows.
-    if_then c.fields_tried.result (λ found is. is ∙ ap (λ l. where_kept (are_numbered 10 l) (map field_read l)) (c.deref.ensures.value ∙ rows) ∙ fields_found t c.args.form) c.fields_tried.ensures)
+    if_then c.fields_tried.result (λ found is. is ∙ ap (λ l. where_kept (are_rows_numbered 10 l) (map field_read l)) (c.deref.ensures.value ∙ rows) ∙ fields_found t c.args.form) c.fields_tried.ensures)

@@ -1,6 +1,6 @@
 use Rattle.std.proofs.Common.{sym, ◌∙◌, ap, Global}
 use Rattle.std.proofs.lemmas.Result.{err_from_is_err_and}
-use Rattle.lab_program_replay.specs.Reading.{IsRefused}
+use Rattle.lab_program_replay.specs.Reading.{IsReadingRefused}
 use Rattle.lab_program_replay.specs.Event.{heading_of}
 use Rattle.lab_program_replay.proofs.NextLemmas.{next_ended, next_no_line, next_no_heading, next_no_bytes, next_taken}
 use Rattle.lab_program_replay.proofs.event.next_event.Goals as goal
@@ -21,7 +21,7 @@ returns-in_err-heading-clause-taken g c =
     let p = err_from_is_err_and c.from_residual-in_err-heading.result
     c.from_residual-in_err-heading.ensures.1 in
     let taken = rw c.in-Some.is at c.in_ok-line.ensures.taken in
-    let refused : IsRefused c.in_err-heading.field-0.0 (heading_of c.in-Some.line.items) =
+    let refused : IsReadingRefused c.in_err-heading.field-0.0 (heading_of c.in-Some.line.items) =
     rw c.deref.ensures.value at c.in_err-heading.ensures in
     rw (p.1, p.2) (next_no_heading c.in-Some.line _ (g.B.Read.remaining c.line.new.reader)
     (g.B.Read.remaining c.line.new.reader) c.in_err-heading.field-0.0 taken refused)

@@ -1,5 +1,5 @@
 use Rattle.std.proofs.Common.{◌-◌, arith, sym, ◌∙◌}
-use Rattle.lab_seal.specs.Parts.{row_of}
+use Rattle.lab_seal.specs.Parts.{entry_row_from}
 use Rattle.lab_seal.proofs.RowLemmas.{rows_more, rows_none, rows_end}
 use Rattle.lab_seal.proofs.WholeLemmas.{left_fault, no_rows, longer_rows, whole_rows}
 use Rattle.lab_seal.proofs.VersionLemmas.{row_sound}
@@ -22,7 +22,7 @@ returns-in-Err-clause-fault c =
 pub loop-at-preserved : goal.loop-at-preserved
 loop-at-preserved c =
     rw c.in_default-push_row.ensures (rows_more c.args.count c.args.text.now c.loop-at.at
-    c.loop-at.rows.items c.loop-at.rest.now c.in-Some.after.now (row_of c.in-Some.row) (omega arith) c.loop-at.invariant
+    c.loop-at.rows.items c.loop-at.rest.now c.in-Some.after.now (entry_row_from c.in-Some.row) (omega arith) c.loop-at.invariant
     (sym c.in-Some.ensures))
 
 pub returns-then-not-is_empty-clause-fault : goal.returns-then-not-is_empty-clause-fault

@@ -3,7 +3,7 @@ use Rattle.sqlite.specs.Effect.{IsDatabase}
 use Rattle.sqlite.specs.Held.{state}
 use Rattle.lab_store_tables.specs.Changes.{InTurn}
 use Rattle.lab_store_laws.specs.Steps.{StepsBy}
-use Rattle.lab_store.specs.Commits.{Ends}
+use Rattle.lab_store.specs.Commits.{EndsStep}
 use Rattle.lab_store.proofs.Commits.{ends_by}
 use Rattle.lab_store.proofs.applying.commit_all.Goals as goal
 
@@ -17,8 +17,8 @@ returns g c =
     let same : end ≡ c.conn-2-1.given.0 = search rules in
     let step = InTurn (StepsBy c.args.lab.id) c.args.changes.now in
     let begun = c.transaction-tx.result.conn.now in
-    let ends : Ends step c.commit.result (state g.S.Store c.args.conn.now) (state g.S.Store c.conn-2-1.given.0) =
-    subst (λ h. Ends step c.commit.result (state g.S.Store c.args.conn.now) (state g.S.Store h)) same
+    let ends : EndsStep step c.commit.result (state g.S.Store c.args.conn.now) (state g.S.Store c.conn-2-1.given.0) =
+    subst (λ h. EndsStep step c.commit.result (state g.S.Store c.args.conn.now) (state g.S.Store h)) same
     (ends_by g.S.Store c.args.conn.now begun c.make_inside.new.tx.conn.now (state g.S.Store end) step c.requires.at_rest c.transaction-tx.ensures.begun c.commit.ensures.ended
     c.make_inside.ensures.survives c.make_inside.ensures.kept (λ clean. c.in_ok-make_inside.ensures.inside clean)
     (λ clean opened. c.in_ok-make_inside.ensures.made clean (subst (λ h. IsDatabase (state g.S.Store h).now) (sym c.transaction-tx.ensures.begun) (c.schema-rules.ensures.live opened).0))

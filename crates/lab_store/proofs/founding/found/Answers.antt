@@ -4,7 +4,7 @@ use Rattle.lab_records_kept.specs.declared.labs.Lab.{Lab}
 use Rattle.lab_records_kept.specs.Births.{newborn_lab}
 use Rattle.lab_store_tables.specs.Meaning.{has_code, lab_in}
 use Rattle.lab_store_tables.specs.Ready.{tables_of}
-use Rattle.lab_store.specs.Commits.{Ends}
+use Rattle.lab_store.specs.Commits.{EndsStep}
 use Rattle.lab_store_write_changes.specs.NewbornRows.{AddsRows}
 use Rattle.lab_store.specs.Founding.{IsPlacedBy}
 use Rattle.lab_store.proofs.Endings.{ends_after, none_found}
@@ -22,7 +22,7 @@ returns-clause-ends g c ready =
     (λ clean t added. is_placed newborn (tables_of old) t
     (none_found (find (has_code newborn.code) (tables_of old).labs) (sym (there.answer ready clean) ∙ c.if-branch.false))
     (sym c.is_asked.ensures ∙ c.if-is_asked.false) added)
-    (subst (λ (lab : Lab). Ends (AddsRows lab) c.place.result mid new) c.in_ok-lab.ensures c.place.ensures.ends)
+    (subst (λ (lab : Lab). EndsStep (AddsRows lab) c.place.result mid new) c.in_ok-lab.ensures c.place.ensures.ends)
 
 mapped : {A B : Type 0} (f : A → B) (o : Option A) → is_some o ≡ true → is_some (option_map f o) ≡ true
 mapped f None is = absurd (cc)

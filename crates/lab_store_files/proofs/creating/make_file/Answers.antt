@@ -2,7 +2,7 @@ use Rattle.std.proofs.Common.{◌≡◌, IsTrue, Ok, Err, Result, OnErr, rules, 
 use Rattle.sqlite.specs.State.{HasCleanDisk}
 use Rattle.sqlite.specs.Held.{state}
 use Rattle.lab_store_tables.specs.Ready.{WhereShown}
-use Rattle.lab_store_files.specs.NewFiles.{IsBlank, IsNewFile, Ends}
+use Rattle.lab_store_files.specs.NewFiles.{IsBlank, IsNewFile, EndsNewFile}
 use Rattle.lab_store_files.proofs.Transactions.{given_up_ends, given_up_rows, committed_ends, committed_made, failed_ends, failed_rows}
 use Rattle.lab_store_files.proofs.creating.make_file.Goals as goal
 
@@ -14,7 +14,7 @@ pub returns-in_err-commit-clause-ends : goal.returns-in_err-commit-clause-ends
 returns-in_err-commit-clause-ends g c =
     let end = c.commit.new.self.0 in
     let same : end ≡ c.conn-2-1.given.0 = search rules in
-    subst (λ h. Ends (state g.S.Store c.args.conn.now) (state g.S.Store h)) same
+    subst (λ h. EndsNewFile (state g.S.Store c.args.conn.now) (state g.S.Store h)) same
     (failed_ends g.S.Store c.args.conn.now c.transaction-tx.result.conn.now c.make_all.new.tx.conn.now (state g.S.Store end) c.requires.at_rest c.transaction-tx.ensures.begun c.commit.ensures.ended
     c.make_all.ensures.survives c.make_all.ensures.kept c.in_ok-make_all.ensures.inside c.in_ok-make_all.ensures.made c.commit.ensures.survives c.in_err-commit.field-0.0 c.in_err-commit.ensures.err)
 
@@ -30,7 +30,7 @@ pub returns-clause-ends : goal.returns-clause-ends
 returns-clause-ends g c =
     let end = c.commit.new.self.0 in
     let same : end ≡ c.conn-2-1.given.0 = search rules in
-    subst (λ h. Ends (state g.S.Store c.args.conn.now) (state g.S.Store h)) same
+    subst (λ h. EndsNewFile (state g.S.Store c.args.conn.now) (state g.S.Store h)) same
     (committed_ends g.S.Store c.args.conn.now c.transaction-tx.result.conn.now c.make_all.new.tx.conn.now (state g.S.Store end) c.requires.at_rest c.transaction-tx.ensures.begun c.commit.ensures.ended
     c.make_all.ensures.survives c.make_all.ensures.kept c.in_ok-make_all.ensures.inside c.in_ok-make_all.ensures.made c.commit.ensures.survives (λ clean. (c.in_ok-commit.ensures.ok clean).1))
 

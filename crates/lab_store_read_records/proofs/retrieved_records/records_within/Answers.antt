@@ -1,7 +1,7 @@
 use Rattle.std.proofs.Common.{w64, ◌∙◌, ap, ap₂, map, sym, subst}
 use Rattle.std.proofs.lemmas.Int.{to_z-of_z}
 use Rattle.lab_store_tables.specs.Ready.{tables_of}
-use Rattle.lab_store_read_records.specs.Shown.{record_read}
+use Rattle.lab_store_read_records.specs.Shown.{record_head_of}
 use Rattle.lab_store_read.proofs.Queries.{if_then}
 use Rattle.lab_store_read.proofs.Readers.{reads_and}
 use Rattle.lab_store_read_records.specs.Sought.{heads_within}
@@ -16,7 +16,7 @@ pub returns-clause-reads : goal.returns-clause-reads
 returns-clause-reads g c =
     let t = tables_of (g.D.Readable.state c.args.conn.now) in
     reads_and (rw (to_z-of_z w64 c.args.lab c.ranges.lab) at c.in_ok-rows.ensures.reads) (λ kept rows.
-    if_then c.records_of_rows.result (λ made is. is ∙ ap (map record_read) (c.deref.ensures.value ∙ rows)
+    if_then c.records_of_rows.result (λ made is. is ∙ ap (map record_head_of) (c.deref.ensures.value ∙ rows)
     ∙ within_found t c.args.lab c.get.result c.get-2.result ∙ ap₂ (heads_within t c.args.lab) c.get.ensures.value c.get-2.ensures.value) c.records_of_rows.ensures.value)
 
 pub returns-clause-cause : goal.returns-clause-cause

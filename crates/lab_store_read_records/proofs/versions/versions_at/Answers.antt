@@ -7,7 +7,7 @@ use Rattle.lab_store_read.proofs.Queries.{if_then}
 use Rattle.lab_store_read.proofs.Readers.{reads_and}
 use Rattle.lab_store_read.proofs.Causes.{made_so, made_if}
 use Rattle.std.specs.Prelude.{All}
-use Rattle.lab_store_read_records.specs.Readable.{HasVersion}
+use Rattle.lab_store_read_records.specs.Readable.{HasVersionColumns}
 use Rattle.lab_store_read_records.proofs.versions.versions_at.Goals as goal
 
 pub returns-clause-reads : goal.returns-clause-reads
@@ -18,5 +18,5 @@ returns-clause-reads g c = reads_and (rw (to_z-of_z w64 c.args.kept c.ranges.kep
 pub returns-clause-cause : goal.returns-clause-cause
 returns-clause-cause g c =
     made_so (rw (to_z-of_z w64 c.args.kept c.ranges.kept) at c.in_ok-rows.ensures.reads) c.in_ok-rows.ensures.cause.limit (λ rows there.
-    made_if _ _ (subst (All HasVersion) (sym (c.deref.ensures.value ∙ rows)) there)
+    made_if _ _ (subst (All HasVersionColumns) (sym (c.deref.ensures.value ∙ rows)) there)
     c.versions_of_rows.result c.versions_of_rows.ensures.fault)
