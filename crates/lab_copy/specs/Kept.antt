@@ -25,7 +25,7 @@ use Rattle.lab_copy.specs.declared.faults.CheckFault.{CheckFault}
 use Rattle.lab_copy.specs.declared.faults.CheckFault.TheVariants.{Flawed, Read, Memory}
 use Rattle.lab_copy.specs.declared.kept.Kept.{Kept}
 use Rattle.lab_copy_lines.specs.Kinds.{kind_of, may_come_after, is_end_kind}
-use Rattle.lab_copy_lines.specs.declared.kinds.Kind.{Kind}
+use Rattle.lab_copy_lines.specs.declared.kinds.LineKind.{LineKind}
 
 -- ---- what is told of a line by what is kept
 
@@ -47,7 +47,7 @@ has_kept_numbers copy kept (Signature line) =
     is_some_and (has_numbers line.record_number line.version) kept.version
 has_kept_numbers copy kept (End line) = are_same_counts kept.counts line.counts
 
-abbrev pub may_come : Option Kind → Line → Bool
+abbrev pub may_come : Option LineKind → Line → Bool
 may_come last line = is_some_and (λ one. may_come_after one (kind_of line)) last
 
 abbrev pub is_in_place_by : Option CopyLine → Kept → Line → Bool

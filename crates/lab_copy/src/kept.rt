@@ -15,7 +15,7 @@ use crate::{
     CheckFault, CurrentVersion, are_same_counts, begin, counts_with, enter, is_first_line,
     is_first_version, lab_of, sign, was_asked,
 };
-use lab_copy_lines::Kind;
+use lab_copy_lines::LineKind;
 use lab_copy_rows::{
     CopyLine, Counts, Digest, Edition, EntryLine, Flaw, Line, Ordinal, OutOfMemory, RecordLine,
     SignatureLine, VersionLine,
@@ -29,7 +29,7 @@ pub struct Kept {
     copy: Option<CopyLine>,
     about: Option<RecordLine>,
     version: Option<CurrentVersion>,
-    last: Option<Kind>,
+    last: Option<LineKind>,
     counts: Counts,
 }
 
@@ -141,7 +141,7 @@ impl Kept {
         ensures { result ≡ may_come self.now.last line.now }
     {
         match self.last {
-            Some(last) => Kind::of(line).may_come_after(last),
+            Some(last) => LineKind::of(line).may_come_after(last),
             None => false,
         }
     }
@@ -261,7 +261,7 @@ impl Kept {
             return Err(CheckFault::Read);
         };
         self.counts = counts;
-        self.last = Some(Kind::of(&line));
+        self.last = Some(LineKind::of(&line));
         self.keep_parts(alloc, row, line)?;
         Ok(())
     }

@@ -16,7 +16,7 @@ use Rattle.lab_copy_rows.specs.declared.lines.Line.TheVariants as line
 use Rattle.lab_copy_lines.specs.Lines.{IsRowRead, field_in, line_at}
 use Rattle.lab_copy_lines.specs.Kinds.{is_end_kind, may_come_after}
 use Rattle.lab_forms_texts.specs.declared.refusals.Fault.TheVariants.{Refused}
-use Rattle.lab_copy_lines.specs.declared.kinds.Kind.TheVariants.{Copy, Record, Version, Entry, Signature, End}
+use Rattle.lab_copy_lines.specs.declared.kinds.LineKind.TheVariants.{Copy, Record, Version, Entry, Signature, End}
 
 abbrev entry : List ℕ → List ℕ → List (List ℕ)
 entry number name =

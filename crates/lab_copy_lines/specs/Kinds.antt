@@ -2,10 +2,10 @@
 use Rattle.std.specs.Prelude.{Bool, true, false}
 use Rattle.lab_copy_rows.specs.declared.lines.Line.{Line}
 use Rattle.lab_copy_rows.specs.declared.lines.Line.TheVariants as line
-use Rattle.lab_copy_lines.specs.declared.kinds.Kind.{Kind}
-use Rattle.lab_copy_lines.specs.declared.kinds.Kind.TheVariants.{Copy, Record, Version, Entry, Signature, End}
+use Rattle.lab_copy_lines.specs.declared.kinds.LineKind.{LineKind}
+use Rattle.lab_copy_lines.specs.declared.kinds.LineKind.TheVariants.{Copy, Record, Version, Entry, Signature, End}
 
-abbrev pub kind_of : Line → Kind
+abbrev pub kind_of : Line → LineKind
 kind_of (line.Copy _) = Copy
 kind_of (line.Record _) = Record
 kind_of (line.Version _) = Version
@@ -14,7 +14,7 @@ kind_of (line.Signature _) = Signature
 kind_of (line.End _) = End
 
 -- which kind may come after which, the earlier one first
-abbrev pub may_come_after : Kind → Kind → Bool
+abbrev pub may_come_after : LineKind → LineKind → Bool
 may_come_after Copy Record = true
 may_come_after Copy End = true
 may_come_after Record Version = true
@@ -27,6 +27,6 @@ may_come_after Signature Entry = false
 may_come_after Signature _ = true
 may_come_after _ _ = false
 
-abbrev pub is_end_kind : Kind → Bool
+abbrev pub is_end_kind : LineKind → Bool
 is_end_kind End = true
 is_end_kind _ = false

@@ -10,7 +10,7 @@ ghost use Rattle.lab_copy_lines.specs.Fields.{HasReasonUnlessFirst, IsMeaningTex
 use lab_copy_rows::{
     Digest, Edition, Format, Meaning, Moment, Note, Ordinal, OutOfMemory, PersonCode, Seal, State,
 };
-use lab_forms_texts::{Notes, PersonCodes, Rule};
+use lab_forms_texts::{Notes, PersonCodes, TextRule};
 use lab_seal::fields::{moment_of, own_copy, text_in, value_of};
 use std::alloc::Global;
 
@@ -27,7 +27,7 @@ pub fn is_word(bytes: &[u8], word: &str) -> bool
 // ---- texts
 
 /// Reads a text, if the rule admits it.
-pub fn text<R: Rule>(bytes: &[u8]) -> Option<&str>
+pub fn text<R: TextRule>(bytes: &[u8]) -> Option<&str>
     ensures value { option_map (λ text. text.now) result ≡ text_where R.admits bytes.now }
     ensures admitted { IfSome result (λ text. IsTrue (R.admits text.now)) }
 {

@@ -6,7 +6,7 @@ use lab_copy_rows::Line;
 
 /// The kind of a line.
 #[derive(Clone, Copy, Debug, PartialEq, Eq)]
-pub enum Kind {
+pub enum LineKind {
     /// The copy row.
     Copy,
     /// A record begins.
@@ -21,31 +21,31 @@ pub enum Kind {
     End,
 }
 
-impl Kind {
+impl LineKind {
     /// The kind of the line.
-    pub fn of(line: &Line) -> Kind
+    pub fn of(line: &Line) -> LineKind
         ensures { result ≡ kind_of line.now }
     {
         match line {
-            Line::Copy(_) => Kind::Copy,
-            Line::Record(_) => Kind::Record,
-            Line::Version(_) => Kind::Version,
-            Line::Entry(_) => Kind::Entry,
-            Line::Signature(_) => Kind::Signature,
-            Line::End(_) => Kind::End,
+            Line::Copy(_) => LineKind::Copy,
+            Line::Record(_) => LineKind::Record,
+            Line::Version(_) => LineKind::Version,
+            Line::Entry(_) => LineKind::Entry,
+            Line::Signature(_) => LineKind::Signature,
+            Line::End(_) => LineKind::End,
         }
     }
 
     /// Whether a line of this kind may come after one of that kind.
-    pub fn may_come_after(self, last: Kind) -> bool
+    pub fn may_come_after(self, last: LineKind) -> bool
         ensures { result ≡ may_come_after last self }
     {
         match last {
-            Kind::Copy => matches!(self, Kind::Record | Kind::End),
-            Kind::Record => matches!(self, Kind::Version),
-            Kind::Version | Kind::Entry => !matches!(self, Kind::Copy),
-            Kind::Signature => !matches!(self, Kind::Copy | Kind::Entry),
-            Kind::End => false,
+            LineKind::Copy => matches!(self, LineKind::Record | LineKind::End),
+            LineKind::Record => matches!(self, LineKind::Version),
+            LineKind::Version | LineKind::Entry => !matches!(self, LineKind::Copy),
+            LineKind::Signature => !matches!(self, LineKind::Copy | LineKind::Entry),
+            LineKind::End => false,
         }
     }
 
@@ -53,6 +53,6 @@ impl Kind {
     pub fn is_end(self) -> bool
         ensures { result ≡ is_end_kind self }
     {
-        matches!(self, Kind::End)
+        matches!(self, LineKind::End)
     }
 }

@@ -14,7 +14,7 @@ mod version_row_parts;
 pub use byte_records::is_header;
 pub use columns::RowFields;
 pub use faults::{BadRow, RowFault};
-pub use kinds::Kind;
+pub use kinds::LineKind;
 pub use lines::read_line;
 pub use version_row_parts::{
     EntryParts, SignatureParts, VersionRowParts, entry_parts, signature_parts, version_parts,

@@ -7,7 +7,7 @@ ghost use Rattle.lab_seal_versions.specs.Seals.{meaning_word};
 ghost use Rattle.lab_seal_versions.specs.States.{state_word};
 
 use crate::Edition;
-use lab_forms_texts::{Rule, Text};
+use lab_forms_texts::{Text, TextRule};
 use lab_seal_versions::{Format, Meaning, Moment, State};
 
 // Each word is borrowed from the value that it describes, since all texts of a row have one
@@ -55,7 +55,7 @@ pub(crate) fn meaning_text(meaning: &Meaning) -> &str
 }
 
 /// A text, or an empty one if there is none.
-pub(crate) fn optional_text<R: Rule>(text: &Option<Text<R>>) -> &str
+pub(crate) fn optional_text<R: TextRule>(text: &Option<Text<R>>) -> &str
     ensures { result.now ≡ optional_text text.now }
 {
     match text {

@@ -14,7 +14,7 @@ ghost use Rattle.lab_desk.specs.Answering.{AnswersRequest};
 ghost use Rattle.lab_desk.specs.Handling.{Handles};
 
 use lab_desk_events::{Event, answer_asked};
-use lab_desk_foundings::{FoundFault, Line, founded_line, line_of_fault, newborn_of};
+use lab_desk_foundings::{FoundFault, FoundingLine, founded_line, line_of_fault, newborn_of};
 use lab_forms_texts::{LabCode, OutOfMemory, Tick};
 use lab_records_copy_out::newborn_is_legible;
 use lab_records_keeper::{Keeper, KeeperFault};
@@ -253,7 +253,12 @@ impl<S: Keeper + Drop> Desk<S> {
     }
 
     /// Founds a laboratory, and says so in a line, which is built before anything is changed.
-    pub(crate) fn answer_founding(&mut self, lab: &LabCode, tick: &Tick, body: &[u8]) -> Line
+    pub(crate) fn answer_founding(
+        &mut self,
+        lab: &LabCode,
+        tick: &Tick,
+        body: &[u8],
+    ) -> FoundingLine
         ensures taken { Given (S.world self.old.keeper) (S.world self.new.keeper)
             (result.taken ≡ true →
             TakesFounding (S.world self.old.keeper) (S.world self.new.keeper) lab.now tick.now
@@ -276,10 +281,10 @@ impl<S: Keeper + Drop> Desk<S> {
         ensures passes { Passes (S.world self.old.keeper) (S.world self.new.keeper) }
     {
         let Ok(line) = founded_line(self.alloc, lab) else {
-            return Line::of_memory();
+            return FoundingLine::of_memory();
         };
         match self.found(lab, tick, body) {
-            Ok(()) => Line {
+            Ok(()) => FoundingLine {
                 taken: true,
                 text: Some(line),
             },

@@ -86,7 +86,7 @@ fn refused_line(alloc: Global, fault: &FoundFault) -> Result<Vec<u8>, OutOfMemor
 
 /// Returns the line that reports a founding that failed, and whether the founding was taken all the
 /// same.
-pub fn line_of_fault(alloc: Global, fault: &FoundFault) -> Line
+pub fn line_of_fault(alloc: Global, fault: &FoundFault) -> FoundingLine
     ensures taken { result.taken ≡ true → (is_taken fault.now ≡ true)
         × (shown (option_map (λ line. line.items) result.text)
         ≡ refused_line (found_fault_entry fault.now)) }
@@ -97,11 +97,11 @@ pub fn line_of_fault(alloc: Global, fault: &FoundFault) -> Line
         ≡ refused_line (found_fault_entry fault.now))) }
 {
     match refused_line(alloc, fault) {
-        Ok(text) => Line {
+        Ok(text) => FoundingLine {
             taken: fault.is_taken(),
             text: Some(text),
         },
-        Err(_) => Line::of_memory(),
+        Err(_) => FoundingLine::of_memory(),
     }
 }
 
@@ -110,19 +110,19 @@ const MEMORY_LINE: &[u8] = b"refused 90 memory\n";
 
 /// The line that is printed for a founding, and whether the founding was taken.
 #[derive(Drop)]
-pub struct Line {
+pub struct FoundingLine {
     /// Whether the founding was taken: it was, unless memory ran out or the store failed.
     pub taken: bool,
     /// The line, or `None` for the line that reports that memory ran out.
     pub text: Option<Vec<u8>>,
 }
 
-impl Line {
+impl FoundingLine {
     /// Returns the line that reports that memory ran out.
-    pub fn of_memory() -> Line
+    pub fn of_memory() -> FoundingLine
         ensures { result ≡ record { taken = false; text = None } }
     {
-        Line {
+        FoundingLine {
             taken: false,
             text: None,
         }

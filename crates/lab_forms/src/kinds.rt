@@ -7,7 +7,7 @@ ghost use Rattle.lab_forms.specs.Kinds.{bound_amount, is_bound, is_at_most};
 use crate::dates::is_date_text;
 use crate::numbers::{DECIMALS_LIMIT, read_amount, text_without_comparison};
 use crate::words::{Worded, has_word, has_word_twice};
-use lab_forms_texts::{Name, Notes, OutOfMemory, Rule, Unit, Writing};
+use lab_forms_texts::{Name, Notes, OutOfMemory, TextRule, Unit, Writing};
 use std::alloc::AllocError;
 use std::marker::Model;
 

@@ -14,6 +14,6 @@ pub use forms::{Field, Form};
 pub use kinds::{Bound, Choices, Kind};
 pub use lab_forms_texts::{
     Fault, Key, LabCode, Moment, MomentFault, Name, NameFault, Note, OutOfMemory, PersonCode,
-    RefusalKind, Rule, Text, Tick, Unit,
+    RefusalKind, Text, TextRule, Tick, Unit,
 };
 pub use values::Value;

@@ -21,6 +21,6 @@ pub use names::{
 pub use ordinals::Ordinal;
 pub use refusals::{Fault, RefusalKind};
 pub use series::Series;
-pub use text::{Rule, Text};
+pub use text::{Text, TextRule};
 pub use tick::Tick;
 pub use typed::Typed;

@@ -4,7 +4,7 @@ ghost use Rattle.std.specs.Prelude.{◌≡◌};
 ghost use Rattle.std.specs.List.{list_all};
 ghost use Rattle.lab_forms_texts.specs.Names.{is_code_byte, is_code, is_lab_code, is_person_code, is_key, is_name_byte, is_name, is_note_byte, is_note, is_unit, is_writing};
 
-use crate::text::{Rule, Text};
+use crate::text::{Text, TextRule};
 
 /// The most characters of a laboratory's code.
 const LAB_CODE_LIMIT: usize = 12;
@@ -84,7 +84,7 @@ fn are_note_characters(bytes: &[u8]) -> bool
 #[derive(Drop)]
 pub struct LabCodes;
 
-impl Rule for LabCodes {
+impl TextRule for LabCodes {
     ghost admits = { is_lab_code };
 
     #[tactic(auto, unfolding(crate::specs::Names::is_lab_code))]
@@ -100,7 +100,7 @@ pub type LabCode = Text<LabCodes>;
 #[derive(Drop)]
 pub struct PersonCodes;
 
-impl Rule for PersonCodes {
+impl TextRule for PersonCodes {
     ghost admits = { is_person_code };
 
     #[tactic(auto, unfolding(crate::specs::Names::is_person_code))]
@@ -116,7 +116,7 @@ pub type PersonCode = Text<PersonCodes>;
 #[derive(Drop)]
 pub struct Keys;
 
-impl Rule for Keys {
+impl TextRule for Keys {
     ghost admits = { is_key };
 
     #[tactic(auto, unfolding(crate::specs::Names::is_key))]
@@ -133,7 +133,7 @@ pub type Key = Text<Keys>;
 #[derive(Drop)]
 pub struct Names;
 
-impl Rule for Names {
+impl TextRule for Names {
     ghost admits = { is_name };
 
     #[tactic(auto, using(crate::proofs::NamesLemmas::is_name_of_bytes), unfolding(crate::specs::Names::is_name))]
@@ -157,7 +157,7 @@ pub type Name = Text<Names>;
 #[derive(Drop)]
 pub struct Notes;
 
-impl Rule for Notes {
+impl TextRule for Notes {
     ghost admits = { is_note };
 
     #[tactic(auto, using(crate::proofs::NamesLemmas::is_note_of_bytes), unfolding(crate::specs::Names::is_note))]
@@ -175,7 +175,7 @@ pub type Note = Text<Notes>;
 #[derive(Drop)]
 pub struct Units;
 
-impl Rule for Units {
+impl TextRule for Units {
     ghost admits = { is_unit };
 
     #[tactic(auto, unfolding(crate::specs::Names::is_unit))]
@@ -191,7 +191,7 @@ pub type Unit = Text<Units>;
 #[derive(Drop)]
 pub struct Writings;
 
-impl Rule for Writings {
+impl TextRule for Writings {
     ghost admits = { is_writing };
 
     fn admits(_text: &str) -> bool {

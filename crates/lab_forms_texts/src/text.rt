@@ -13,7 +13,7 @@ use std::fmt;
 use std::marker::{Model, PhantomData};
 
 /// The rule of a kind of text: which texts it admits.
-pub trait Rule {
+pub trait TextRule {
     /// The rule, over the bytes of a text.
     ghost admits: { List ℕ → Bool };
 
@@ -25,19 +25,19 @@ pub trait Rule {
 /// A text that its rule admits.
 ///
 /// A contract sees it as the list of its bytes.
-pub struct Text<R: Rule> {
+pub struct Text<R: TextRule> {
     text: String,
     rule: PhantomData<R>,
 }
 
 // `drop` is written out, so that a caller doesn't prove again how each part is dropped.
-impl<R: Rule> Drop for Text<R> {
+impl<R: TextRule> Drop for Text<R> {
     fn drop(self) {
         let Text { text: _, rule: _ } = self;
     }
 }
 
-impl<R: Rule> Model for Text<R> {
+impl<R: TextRule> Model for Text<R> {
     ghost use Rattle.std.specs.Prelude.{List, ℕ, IsTrue, string_bytes};
 
     ghost Value = { List ℕ };
@@ -47,7 +47,7 @@ impl<R: Rule> Model for Text<R> {
     ghost invariant = { λ t. IsTrue (R.admits (string_bytes t.text)) };
 }
 
-impl<R: Rule> Text<R> {
+impl<R: TextRule> Text<R> {
     /// Checks a text against the rule, and returns a copy.
     ///
     /// # Errors
@@ -98,7 +98,7 @@ impl Text<Writings> {
     }
 }
 
-impl<R: Rule> Clone for Text<R> {
+impl<R: TextRule> Clone for Text<R> {
     ghost use Rattle.std.specs.Prelude.{◌≡◌};
 
     ghost is_clone = { λ text copy. copy ≡ text };
@@ -112,7 +112,7 @@ impl<R: Rule> Clone for Text<R> {
     }
 }
 
-impl<R: Rule> PartialEq for Text<R> {
+impl<R: TextRule> PartialEq for Text<R> {
     ghost eq = { pointwise nat_eq };
 
     ghost laws = { partial_equiv_from_equiv nat_list_eq_equiv };
@@ -122,11 +122,11 @@ impl<R: Rule> PartialEq for Text<R> {
     }
 }
 
-impl<R: Rule> Eq for Text<R> {
+impl<R: TextRule> Eq for Text<R> {
     ghost laws = { nat_list_eq_equiv };
 }
 
-impl<R: Rule> PartialOrd for Text<R> {
+impl<R: TextRule> PartialOrd for Text<R> {
     ghost partial_cmp = { λ left right. Some (slice_cmp nat_cmp left right) };
 
     ghost laws = { texts_po };
@@ -137,7 +137,7 @@ impl<R: Rule> PartialOrd for Text<R> {
 }
 
 /// Texts are in the order of their bytes.
-impl<R: Rule> Ord for Text<R> {
+impl<R: TextRule> Ord for Text<R> {
     ghost use Rattle.std.specs.Prelude.{refl};
 
     ghost cmp = { slice_cmp nat_cmp };
@@ -153,7 +153,7 @@ impl<R: Rule> Ord for Text<R> {
     }
 }
 
-impl<R: Rule> fmt::Debug for Text<R> {
+impl<R: TextRule> fmt::Debug for Text<R> {
     fn fmt<W: fmt::Write>(&self, f: &mut fmt::Formatter<W>) -> fmt::Result {
         self.text.fmt(f)
     }

@@ -4,13 +4,13 @@ ghost use Rattle.std.specs.Prelude.{◌≡◌, None, [], option_copied};
 ghost use Rattle.lab_records_kept.specs.Lookups.{comes_before, last_form};
 ghost use Rattle.lab_move_checks.specs.Orders.{are_numbered, are_in_order_after, are_forms_in_order_after, follows, are_forms_numbered};
 
-use lab_forms_texts::{Key, Rule, Text};
+use lab_forms_texts::{Key, Text, TextRule};
 use lab_people_access::{Person, Session};
 use lab_records_kept::{FormVersion, Record, TrailRow, Version};
 use std::cmp::Ordering;
 
 // Whether one text comes before another in the order of their bytes.
-fn comes_before<R: Rule>(one: &Text<R>, other: &Text<R>) -> bool
+fn comes_before<R: TextRule>(one: &Text<R>, other: &Text<R>) -> bool
     ensures { result ≡ comes_before one.now other.now }
 {
     match one.cmp(other) {

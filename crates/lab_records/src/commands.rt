@@ -6,7 +6,7 @@ ghost use Rattle.lab_records_machine.specs.Makings.{is_made_of, makes_on_record,
 use lab_forms_texts::{OutOfMemory, Series, Tick};
 use lab_people_access::{Person, Session};
 use lab_records_commands::{
-    Asked, amending_done, asked_signing_done, asking_done, changing_done, closed_done,
+    AskedSignature, amending_done, asked_signing_done, asking_done, changing_done, closed_done,
     confirming_done, copied_rows, enrolling_done, entering_done, form_read_done, making_done,
     opening_record_done, person_lines, record_lines, record_read_done, retiring_done,
     setting_roles_done, unlocking_done, version_read_done,
@@ -128,7 +128,7 @@ fn done_on_record(
             code,
             ..
         } => {
-            let asked = Asked {
+            let asked = AskedSignature {
                 version,
                 digest,
                 signing,

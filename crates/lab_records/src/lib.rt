@@ -15,8 +15,8 @@ pub use lab_forms_texts::{
 pub use lab_records_commands::opening_done;
 pub use lab_records_keeper::{BadStore, Keeper, KeeperFault, PlacingFault};
 pub use lab_records_kept::{
-    Change, Counts, EntryRow, FormVersion, FormWanted, FoundRecord, Lab, ListWanted, Need, Newborn,
-    Record, RecordWanted, Signature, Slice, TrailRow, Version,
+    Change, EntryRow, FormVersion, FormWanted, FoundRecord, Lab, LabCounts, ListWanted, Need,
+    Newborn, Record, RecordWanted, Signature, Slice, TrailRow, Version,
 };
 pub use lab_records_machine::{
     AccountCommand, BirthRefusal, Command, Founder, Founding, Instruction, ReadingCommand,

@@ -6,7 +6,7 @@ ghost use Rattle.lab_people_access.specs.Sessions.{has_token};
 ghost use Rattle.lab_records_kept.specs.Lookups.{comes_before, has_number, last_of, version_of};
 ghost use Rattle.lab_records_kept.specs.Changes.{in_last, in_version, with_row, with_signature, entered_in, opened_in, signed_in};
 
-use lab_forms_texts::{Rule, Text};
+use lab_forms_texts::{Text, TextRule};
 use lab_records_kept::{
     Digest, EntryRow, EntryRows, FormVersion, Key, Ordinal, OutOfMemory, Person, PersonCode,
     Record, Series, Session, Signature, Version, place_of_version,
@@ -32,7 +32,7 @@ fn first_of_code(persons: &[Person], code: &PersonCode) -> Option<usize>
 }
 
 // Whether one text is before the other in the order of their bytes.
-fn comes_before<R: Rule>(one: &Text<R>, other: &Text<R>) -> bool
+fn comes_before<R: TextRule>(one: &Text<R>, other: &Text<R>) -> bool
     ensures { result ≡ comes_before one.now other.now }
 {
     match one.cmp(other) {

@@ -16,6 +16,7 @@ pub use readings::{
     copied_rows, form_read_done, person_lines, record_lines, record_read_done, version_read_done,
 };
 pub use records::{
-    Asked, amending_done, asked_signing_done, entering_done, making_done, opening_record_done,
+    AskedSignature, amending_done, asked_signing_done, entering_done, making_done,
+    opening_record_done,
 };
 pub use sessions::{closed_done, opening_done};

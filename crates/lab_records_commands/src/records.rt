@@ -242,7 +242,7 @@ fn amendment_done(alloc: Global, made: AmendmentMade) -> Result<Done, OutOfMemor
 
 /// A signature that is asked for.
 #[derive(Drop)]
-pub struct Asked {
+pub struct AskedSignature {
     /// The number of the version.
     pub version: Ordinal,
     /// The version's digest, as the person saw it.
@@ -263,7 +263,7 @@ pub fn asked_signing_done(
     moment: Moment,
     session: Session,
     caller: Person,
-    asked: Asked,
+    asked: AskedSignature,
     password: &Typed,
     code: &Option<PersonCode>,
 ) -> Result<Done, OutOfMemory>
@@ -291,7 +291,7 @@ fn signing_done(
     slice: &Slice,
     moment: Moment,
     session: Session,
-    asked: Asked,
+    asked: AskedSignature,
     person: Person,
 ) -> Result<Done, OutOfMemory>
     ensures done { IfOk result (λ done. done

@@ -8,7 +8,7 @@ use Rattle.lab_records_kept.specs.declared.trails.TrailRow.{TrailRow}
 use Rattle.lab_records_kept.specs.declared.labs.Lab.{Lab}
 use Rattle.lab_records_kept.specs.declared.needs.Need.{Need}
 use Rattle.lab_records_kept.specs.declared.needs.Slice.{Slice}
-use Rattle.lab_records_kept.specs.declared.needs.Counts.{Counts}
+use Rattle.lab_records_kept.specs.declared.needs.LabCounts.{LabCounts}
 use Rattle.lab_records_kept.specs.declared.needs.FormWanted.{FormWanted}
 use Rattle.lab_records_kept.specs.declared.needs.FormWanted.TheVariants.{Last, Exact}
 use Rattle.lab_records_kept.specs.declared.needs.RecordWanted.{RecordWanted}
@@ -18,7 +18,7 @@ use Rattle.lab_records_kept.specs.declared.needs.ListWanted.TheVariants.{Persons
 use Rattle.lab_records_kept.specs.Lookups.{session_at, person_at, caller_of, last_form, exact_form, record_of, record_about, records_within, rows_within}
 
 -- how many a laboratory has
-abbrev pub counts_of : Lab → Counts
+abbrev pub counts_of : Lab → LabCounts
 counts_of lab = record {
   persons = length lab.persons;
   sessions = length lab.sessions;

@@ -66,7 +66,7 @@ impl Drop for Need {
 
 /// The numbers of things that a laboratory has.
 #[derive(Clone, Copy)]
-pub struct Counts {
+pub struct LabCounts {
     /// The number of persons, retired ones too.
     pub persons: u64,
     /// The number of sessions, closed ones too.
@@ -88,7 +88,7 @@ pub struct Slice {
     /// The number of passwords that count as stray.
     pub strays: u64,
     /// How many persons, sessions, records and rows of the trail the laboratory has.
-    pub counts: Counts,
+    pub counts: LabCounts,
     /// The session that is needed, if it exists.
     pub session: Option<Session>,
     /// The person of that session.

@@ -5,7 +5,7 @@ ghost use Rattle.lab_records_kept.specs.Parts.{part, counts_of, form_meant, reco
 
 use crate::lookups::{exact_form, last_form, person_of, record_about, record_of, session_of};
 use lab_records_kept::{
-    Counts, Digest, FormVersion, FormWanted, FoundRecord, Lab, ListWanted, Need, Ordinal,
+    Digest, FormVersion, FormWanted, FoundRecord, Lab, LabCounts, ListWanted, Need, Ordinal,
     OutOfMemory, Person, PersonCode, Record, RecordWanted, Series, Session, Slice, TrailRow,
 };
 use std::alloc::Global;
@@ -78,10 +78,10 @@ fn both<A: Drop, B: Drop>(
 }
 
 // The number of persons, sessions, records and rows of the trail of the laboratory.
-fn counts(lab: &Lab) -> Counts
+fn counts(lab: &Lab) -> LabCounts
     ensures { result ≡ counts_of lab.now }
 {
-    Counts {
+    LabCounts {
         persons: lab.persons.as_slice().len() as u64,
         sessions: lab.sessions.as_slice().len() as u64,
         records: lab.records.as_slice().len() as u64,

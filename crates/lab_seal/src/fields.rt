@@ -9,7 +9,7 @@ ghost use Rattle.lab_seal.specs.Reading.{number_written, line_of, first_item, fi
 ghost use Rattle.lab_forms_texts.specs.Moment.{moment_of};
 
 use itoa::Buffer;
-use lab_forms_texts::{Moment, NameFault, Notes, Ordinal, OutOfMemory, Rule, Text};
+use lab_forms_texts::{Moment, NameFault, Notes, Ordinal, OutOfMemory, Text, TextRule};
 use lab_seal_hashes::Digest;
 use std::alloc::Global;
 
@@ -17,7 +17,7 @@ use std::alloc::Global;
 ///
 /// # Errors
 /// Memory ran out.
-pub fn own_copy<R: Rule>(alloc: Global, text: &str) -> Result<Text<R>, OutOfMemory>
+pub fn own_copy<R: TextRule>(alloc: Global, text: &str) -> Result<Text<R>, OutOfMemory>
     requires { IsTrue (R.admits text.now) }
     ensures { IfOk result (λ copy. copy ≡ text.now) }
 {
@@ -96,7 +96,7 @@ pub fn bytes(text: &[u8]) -> Option<(&[u8], &[u8])>
 
 /// Reads a text that the rule admits.
 #[tactic(auto, unfolding(crate::specs::Reading::first_as))]
-pub fn text<R: Rule>(front: &[u8]) -> Option<(&str, &[u8])>
+pub fn text<R: TextRule>(front: &[u8]) -> Option<(&str, &[u8])>
     ensures { option_map (λ found. (found.0.now, found.1.now)) result
         ≡ first_as (text_where R.admits) front.now }
 {
@@ -104,7 +104,7 @@ pub fn text<R: Rule>(front: &[u8]) -> Option<(&str, &[u8])>
     Some((admitted_in::<R>(bytes)?, rest))
 }
 
-fn admitted_in<R: Rule>(bytes: &[u8]) -> Option<&str>
+fn admitted_in<R: TextRule>(bytes: &[u8]) -> Option<&str>
     ensures { option_map (λ text. text.now) result ≡ text_where R.admits bytes.now }
 {
     let text = text_in(bytes)?;

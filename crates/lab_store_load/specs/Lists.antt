@@ -1,7 +1,7 @@
 -- How many a laboratory has, and the list that is meant.
 use Rattle.std.specs.Prelude.{length, Option}
 use Rattle.lab_records_kept.specs.declared.labs.Lab.{Lab}
-use Rattle.lab_records_kept.specs.declared.needs.Counts.{Counts}
+use Rattle.lab_records_kept.specs.declared.needs.LabCounts.{LabCounts}
 use Rattle.lab_records_kept.specs.declared.needs.ListWanted.{ListWanted}
 use Rattle.lab_records_kept.specs.Parts.{persons_meant, records_meant, rows_meant}
 use Rattle.lab_store_tables.specs.Rows.{Tables}
@@ -10,7 +10,7 @@ use Rattle.lab_store_read_records.specs.declared.heads.LabHead.{LabHead}
 use Rattle.lab_store_load.specs.declared.lists.Listed.{Listed}
 
 -- how many it has: its row counts all but the persons
-abbrev pub counts_by : Tables → LabHead → Counts
+abbrev pub counts_by : Tables → LabHead → LabCounts
 counts_by t head = record {
   persons = length (persons_of t head.id);
   sessions = head.sessions;

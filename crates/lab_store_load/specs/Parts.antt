@@ -2,7 +2,7 @@
 -- how many it has, then the list, then whoever and whatever else is meant.
 use Rattle.lab_records_kept.specs.declared.needs.Need.{Need}
 use Rattle.lab_records_kept.specs.declared.needs.Slice.{Slice}
-use Rattle.lab_records_kept.specs.declared.needs.Counts.{Counts}
+use Rattle.lab_records_kept.specs.declared.needs.LabCounts.{LabCounts}
 use Rattle.lab_store_tables.specs.Rows.{Tables}
 use Rattle.lab_store_read_records.specs.declared.heads.LabHead.{LabHead}
 use Rattle.lab_store_read_records.specs.Laboratories.{lab_by}
@@ -13,7 +13,7 @@ use Rattle.lab_store_load.specs.People.{people_by}
 use Rattle.lab_store_load.specs.declared.things.Things.{Things}
 use Rattle.lab_store_load.specs.Things.{things_by}
 
-abbrev pub slice_of : LabHead → Counts → Listed → People → Things → Slice
+abbrev pub slice_of : LabHead → LabCounts → Listed → People → Things → Slice
 slice_of head counts listed people things = record {
   code = head.code;
   name = head.name;
@@ -31,12 +31,12 @@ slice_of head counts listed people things = record {
 }
 
 -- with whoever and whatever is meant
-abbrev pub slice_with : Tables → Need → LabHead → Counts → Listed → Slice
+abbrev pub slice_with : Tables → Need → LabHead → LabCounts → Listed → Slice
 slice_with t need head counts listed =
     slice_of head counts listed (people_by (lab_by t head) need) (things_by (lab_by t head) need)
 
 -- and with the list that is meant
-abbrev pub slice_counted : Tables → Need → LabHead → Counts → Slice
+abbrev pub slice_counted : Tables → Need → LabHead → LabCounts → Slice
 slice_counted t need head counts =
     slice_with t need head counts (listed_by (lab_by t head) need.list)
 

@@ -12,7 +12,7 @@ ghost use Rattle.lab_store_read.specs.Reads.{Reads, MayRead};
 use crate::counts::{Counted, persons_counted};
 use lab_forms_texts::{Ordinal, Series};
 use lab_people_access::Person;
-use lab_records_kept::{Counts, ListWanted, Record, TrailRow};
+use lab_records_kept::{LabCounts, ListWanted, Record, TrailRow};
 use lab_store_read::{ReadFault, Readable};
 use lab_store_read_forms::filed_within;
 use lab_store_read_people::persons_at;
@@ -39,13 +39,13 @@ pub fn counts_at<D: Readable>(
     conn: &mut D,
     counted: &Option<Counted>,
     lab: &LabHead,
-) -> Result<Counts, ReadFault>
+) -> Result<LabCounts, ReadFault>
     ensures reads { MayRead (λ t counts. IfSome counted.now (IsCounted t) →
         counts ≡ counts_by t lab.now) (D.state conn.old) (D.state conn.new) result }
     ensures cause { HasItsCause (λ t. Unit {0}) (D.state conn.old) (D.state conn.new) result }
 {
     let persons = persons_counted(conn, lab.id, counted)?;
-    Ok(Counts {
+    Ok(LabCounts {
         persons,
         sessions: lab.sessions,
         records: lab.records,

@@ -15,7 +15,7 @@ use crate::lists::{Listed, counts_at, listed_at};
 use crate::people::people_at;
 use crate::things::things_at;
 use lab_forms_texts::LabCode;
-use lab_records_kept::{Counts, Need, Slice};
+use lab_records_kept::{LabCounts, Need, Slice};
 use lab_store_read::{ReadFault, Readable};
 use lab_store_read_records::{LabHead, lab_at};
 use std::alloc::Global;
@@ -26,7 +26,7 @@ fn slice_with<D: Readable>(
     conn: &mut D,
     head: LabHead,
     need: &Need,
-    counts: Counts,
+    counts: LabCounts,
     listed: Listed,
 ) -> Result<Slice, ReadFault>
     ensures reads { MayRead (λ t slice. slice ≡ slice_with t need.now head counts listed)
@@ -59,7 +59,7 @@ fn slice_counted<D: Readable>(
     conn: &mut D,
     head: LabHead,
     need: &Need,
-    counts: Counts,
+    counts: LabCounts,
 ) -> Result<Slice, ReadFault>
     ensures reads { MayRead (λ t slice. slice ≡ slice_counted t need.now head counts)
         (D.state conn.old) (D.state conn.new) result }

@@ -13,7 +13,7 @@ ghost use Rattle.lab_store_tables.specs.Rows.{number, optional, number_in, flag_
 ghost use Rattle.lab_store_read.specs.Cells.{storage, is_id, is_number, is_small, is_text_cell, is_digest, is_optional, stands, IsNotRead, IsNotMade};
 
 use crate::faults::{ReadFault, name_fault};
-use lab_forms_texts::{Moment, Ordinal, Rule, Text};
+use lab_forms_texts::{Moment, Ordinal, Text, TextRule};
 use lab_records_keeper::BadStore;
 use lab_seal_hashes::Digest;
 use sqlite::Row;
@@ -113,7 +113,7 @@ pub fn moment_of(row: &Row, at: usize) -> Result<Moment, ReadFault>
 }
 
 // Parses the bytes as a text of the rule.
-fn parsed_text<R: Rule>(alloc: Global, text: &[u8]) -> Result<Text<R>, ReadFault>
+fn parsed_text<R: TextRule>(alloc: Global, text: &[u8]) -> Result<Text<R>, ReadFault>
     ensures value { IfOk result (λ read. read ≡ text.now) }
     ensures fault { IfErr result (IsNotMade (is_utf8 text.now && R.admits text.now)) }
 {
@@ -130,7 +130,7 @@ fn parsed_text<R: Rule>(alloc: Global, text: &[u8]) -> Result<Text<R>, ReadFault
 ///
 /// # Errors
 /// The column holds no such text, or memory ran out for it.
-pub fn text_of<R: Rule>(alloc: Global, row: &Row, at: usize) -> Result<Text<R>, ReadFault>
+pub fn text_of<R: TextRule>(alloc: Global, row: &Row, at: usize) -> Result<Text<R>, ReadFault>
     ensures value { IfOk result (λ text. text ≡ bytes (column row.now at)) }
     ensures shown { IfOk result (λ text. slice_get row.now at ≡ Some (StoredText text)) }
     ensures fault { IfErr result (IsNotMade (stands (is_text_cell R.admits) row.now at)) }
@@ -174,7 +174,11 @@ pub fn small_if(row: &Row, at: usize) -> Result<Option<u32>, ReadFault>
 ///
 /// # Errors
 /// The column holds neither NULL nor such a text, or memory ran out for it.
-pub fn text_if<R: Rule>(alloc: Global, row: &Row, at: usize) -> Result<Option<Text<R>>, ReadFault>
+pub fn text_if<R: TextRule>(
+    alloc: Global,
+    row: &Row,
+    at: usize,
+) -> Result<Option<Text<R>>, ReadFault>
     ensures value { IfOk result (λ text. text ≡ optional_in bytes (column row.now at)) }
     ensures shown { IfOk result (λ text. slice_get row.now at ≡ Some (optional StoredText text)) }
     ensures fault { IfErr result (IsNotMade (stands (is_optional (is_text_cell R.admits)) row.now at)) }

@@ -10,7 +10,7 @@ ghost use Rattle.lab_records_kept.specs.Lookups.{comes_before};
 ghost use Rattle.lab_records_kept.specs.Trails.{trail_row_of};
 ghost use Rattle.lab_store_write_changes.specs.Newborns.{is_asked};
 
-use lab_forms_texts::{Rule, Text};
+use lab_forms_texts::{Text, TextRule};
 use lab_records_kept::{
     Action, Lab, Newborn, Ordinal, OutOfMemory, Person, PersonCode, Series, Subject, TrailRow,
 };
@@ -25,7 +25,7 @@ pub fn is_asked(newborn: &Newborn) -> bool
 }
 
 // Whether a text comes before another in the order of their bytes.
-fn comes_before<R: Rule>(one: &Text<R>, other: &Text<R>) -> bool
+fn comes_before<R: TextRule>(one: &Text<R>, other: &Text<R>) -> bool
     ensures { result ≡ comes_before one.now other.now }
 {
     match one.cmp(other) {

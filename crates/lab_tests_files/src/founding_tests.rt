@@ -1,6 +1,6 @@
 //! A founding that is refused. Calls stand in functions without clauses, so that the proof of the test doesn't carry what a
 //! connection holds after each.
-use lab_forms::{Moment, Rule, Text};
+use lab_forms::{Moment, Text, TextRule};
 use lab_people::{Password, Person, Roles};
 use lab_store::{FileFault, Newborn, PlacingFault, Tables, create, found};
 use sqlite::{Connection, MemStore};
@@ -10,7 +10,7 @@ use std::process::Abort;
 type File = Tables<MemStore>;
 
 // A code or a name.
-fn text<R: Rule>(rt: &(impl Abort + AllocGlobal), text: &str) -> Text<R> {
+fn text<R: TextRule>(rt: &(impl Abort + AllocGlobal), text: &str) -> Text<R> {
     Text::parse(rt.alloc(), text).expect(rt, "a text that its rule admits")
 }
 

@@ -8,7 +8,7 @@ use crate::sample_results::{both, made_of, text};
 use crate::samples::{colours, field, form, least, numbers};
 use anyhow::Result;
 use lab_forms::{Choices, Field, Form, Kind, Value};
-use lab_forms_texts::{Keys, LabCodes, Names, Notes, PersonCodes, Rule, Text, Units};
+use lab_forms_texts::{Keys, LabCodes, Names, Notes, PersonCodes, Text, TextRule, Units};
 use std::alloc::Global;
 use std::io::{self, Print};
 
@@ -47,7 +47,7 @@ fn print_names(rt: &impl Print, alloc: Global, copied: bool) -> io::Result<()> {
     print_text::<Units>(rt, copied, text(alloc, "mg/L"))
 }
 
-fn print_text<R: Rule>(rt: &impl Print, copied: bool, made: Result<Text<R>>) -> io::Result<()> {
+fn print_text<R: TextRule>(rt: &impl Print, copied: bool, made: Result<Text<R>>) -> io::Result<()> {
     if copied {
         print_made(rt, made_of(made, Text::copy), Text::as_str)
     } else {

@@ -1,7 +1,7 @@
 //! Results of calls, made of one another.
 
 use anyhow::Result;
-use lab_forms_texts::{Rule, Text};
+use lab_forms_texts::{Text, TextRule};
 use std::alloc::Global;
 use std::error::Error;
 
@@ -23,6 +23,6 @@ pub fn both<A: Drop, B: Drop>(first: Result<A>, second: Result<B>) -> Result<(A,
 }
 
 /// A code, a key, a name, a note or a unit.
-pub fn text<R: Rule>(alloc: Global, text: &str) -> Result<Text<R>> {
+pub fn text<R: TextRule>(alloc: Global, text: &str) -> Result<Text<R>> {
     Ok(Text::parse(alloc, text)?)
 }

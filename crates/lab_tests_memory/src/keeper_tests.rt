@@ -4,7 +4,7 @@ use crate::made::{changes, newborn, text, token};
 use crate::told::slices_text;
 use lab_records_keeper::{Keeper, PlacingFault};
 use lab_records_kept::{
-    Counts, Digest, FormWanted, ListWanted, Need, Ordinal, RecordWanted, Slice,
+    Digest, FormWanted, LabCounts, ListWanted, Need, Ordinal, RecordWanted, Slice,
 };
 use lab_records_memory::Lists;
 use std::process::Abort;
@@ -41,7 +41,7 @@ fn loaded(
     slice.expect(rt, "memory")
 }
 
-fn assert_counts(rt: &impl Abort, counts: &Counts) {
+fn assert_counts(rt: &impl Abort, counts: &LabCounts) {
     assert_eq!(rt; counts.persons, 4);
     assert_eq!(rt; counts.sessions, 1);
     assert_eq!(rt; counts.records, 0);

@@ -1,5 +1,5 @@
 //! What a laboratory and changes are made of.
-use lab_forms_texts::{Rule, Text};
+use lab_forms_texts::{Text, TextRule};
 use lab_records_kept::{
     Action, Change, Closing, Digest, Moment, Newborn, Ordinal, Password, Person, Role, Roles,
     Series, Session, Subject, TrailRow,
@@ -7,7 +7,7 @@ use lab_records_kept::{
 use std::process::Abort;
 
 // A code or a name.
-pub(crate) fn text<R: Rule>(rt: &(impl Abort + AllocGlobal), text: &str) -> Text<R> {
+pub(crate) fn text<R: TextRule>(rt: &(impl Abort + AllocGlobal), text: &str) -> Text<R> {
     Text::parse(rt.alloc(), text).expect(rt, "a text that its rule admits")
 }
 

@@ -1,6 +1,6 @@
 //! The parts of a laboratory.
 use lab_forms::{Field, Form, Kind};
-use lab_forms_texts::{Moment, Ordinal, Rule, Series, Text};
+use lab_forms_texts::{Moment, Ordinal, Series, Text, TextRule};
 use lab_people_access::{Ask, Password, Person, Roles, Session};
 use lab_records_kept::{
     Action, Digest, EntryRow, EntryRows, FormVersion, Format, Meaning, Origin, Record, Seal,
@@ -10,7 +10,7 @@ use lab_seal_hashes::Verifier;
 use std::process::Abort;
 
 /// A code, a key, a name, a note or a unit.
-pub(crate) fn text<R: Rule>(rt: &(impl Abort + AllocGlobal), text: &str) -> Text<R> {
+pub(crate) fn text<R: TextRule>(rt: &(impl Abort + AllocGlobal), text: &str) -> Text<R> {
     Text::parse(rt.alloc(), text).expect(rt, "a text that its rule admits")
 }
 

@@ -1,10 +1,10 @@
 //! Seals, of signatures that were copied.
-use lab_forms_texts::{Rule, Text};
+use lab_forms_texts::{Text, TextRule};
 use lab_seal_versions::{Digest, Meaning, Moment, SealParts, seal};
 use std::process::Abort;
 
 // A code, name or note.
-fn text<R: Rule>(rt: &(impl Abort + AllocGlobal), text: &str) -> Text<R> {
+fn text<R: TextRule>(rt: &(impl Abort + AllocGlobal), text: &str) -> Text<R> {
     Text::parse(rt.alloc(), text).expect(rt, "a text that its rule admits")
 }
 

@@ -1,7 +1,7 @@
 //! Texts, moments, numbers and series.
 use lab_forms_texts::{
-    Keys, LabCodes, Moment, MomentFault, Names, Note, Notes, Ordinal, PersonCodes, Rule, Series,
-    Units,
+    Keys, LabCodes, Moment, MomentFault, Names, Note, Notes, Ordinal, PersonCodes, Series,
+    TextRule, Units,
 };
 use std::process::Abort;
 

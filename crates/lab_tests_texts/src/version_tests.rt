@@ -1,5 +1,5 @@
 //! The texts of versions, which `lab_seal_versions` writes and `lab_seal` reads.
-use lab_forms_texts::{Rule, Text};
+use lab_forms_texts::{Text, TextRule};
 use lab_seal::{BadText, TextFault, one_spelling, read_version};
 use lab_seal_versions::{
     Amendment, EntryRow, EntryRows, Format, Moment, Note, Ordinal, Origin, VersionParts, digest,
@@ -100,7 +100,7 @@ fn many_rows_are_read_copied_and_written_again(rt: HostRuntime) {
 }
 
 // A code, key, name, note or unit.
-fn text<R: Rule>(rt: &(impl Abort + AllocGlobal), text: &str) -> Text<R> {
+fn text<R: TextRule>(rt: &(impl Abort + AllocGlobal), text: &str) -> Text<R> {
     Text::parse(rt.alloc(), text).expect(rt, "a text that its rule admits")
 }
 

@@ -1,5 +1,5 @@
 //! What is needed of a laboratory, so that each part of it is needed once.
-use lab_forms_texts::{Ordinal, Rule, Text};
+use lab_forms_texts::{Ordinal, Text, TextRule};
 use lab_records_kept::{FormWanted, ListWanted, Need, RecordWanted};
 use lab_seal_hashes::Token;
 use lab_tests_rows::{TOKEN_OF_ANN, TOKEN_OF_DAN, words};
@@ -10,7 +10,7 @@ const ANN: u32 = 1016;
 
 const BOB: u32 = 1024;
 
-fn text<R: Rule>(rt: &(impl Abort + AllocGlobal), text: &str) -> Text<R> {
+fn text<R: TextRule>(rt: &(impl Abort + AllocGlobal), text: &str) -> Text<R> {
     Text::parse(rt.alloc(), text).expect(rt, "a text that its rule admits")
 }
 

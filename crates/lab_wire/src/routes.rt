@@ -12,7 +12,7 @@ use crate::numbers::ordinal_in;
 use crate::paths::{behind, lab_in, next_segment, path_of, place_in, query_of};
 use crate::route_refusals::{Allowed, RouteRefusal};
 use http::Method;
-use lab_forms_texts::{Keys, LabCodes, OutOfMemory, Rule};
+use lab_forms_texts::{Keys, LabCodes, OutOfMemory, TextRule};
 use lab_wire_bodies::Post;
 use matchit::{InsertError, Router};
 use std::alloc::Global;

@@ -7,24 +7,25 @@ ghost use Rattle.lab_wire_members.specs.Readings.{FaultyInTurn};
 use lab_forms_texts::{Names, PersonCode, PersonCodes};
 use lab_records_machine::{AccountCommand, Command, SessionCommand};
 use lab_wire_members::{
-    BodyFault, BodyRefusal, Member, has_members, must, named_at, roles_at, typed_at, wanted_member,
+    BodyFault, BodyRefusal, MemberWanted, has_members, must, named_at, roles_at, typed_at,
+    wanted_member,
 };
 use serde_json::Value;
 use std::alloc::Global;
 
-const OPENING: [Member; 2] = [must!("code", Text), must!("password", Text)];
+const OPENING: [MemberWanted; 2] = [must!("code", Text), must!("password", Text)];
 
-const PASSWORD: [Member; 2] = [must!("old", Text), must!("new", Text)];
+const PASSWORD: [MemberWanted; 2] = [must!("old", Text), must!("new", Text)];
 
-const ENROLMENT: [Member; 3] = [
+const ENROLMENT: [MemberWanted; 3] = [
     must!("code", Text),
     must!("name", Text),
     must!("roles", Roles),
 ];
 
-const ROLES: [Member; 2] = [must!("code", Text), must!("roles", Roles)];
+const ROLES: [MemberWanted; 2] = [must!("code", Text), must!("roles", Roles)];
 
-const PERSON: [Member; 1] = [must!("code", Text)];
+const PERSON: [MemberWanted; 1] = [must!("code", Text)];
 
 /// Reads the command that opens a session.
 ///

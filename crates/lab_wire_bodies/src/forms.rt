@@ -15,7 +15,7 @@ use lab_forms::{Bound, Choices, Field, Form, Kind};
 use lab_forms_texts::{Keys, Name, Names, Units};
 use lab_records_machine::{Command, RecordCommand, SessionCommand};
 use lab_wire_members::{
-    BodyFault, BodyRefusal, Element, Member, admitted_text, each_of, elements_at, flag_at,
+    BodyFault, BodyRefusal, Element, MemberWanted, admitted_text, each_of, elements_at, flag_at,
     has_members, may, must, named_at, str_at, wanted_member, whole_at,
 };
 use serde_json::Value;
@@ -45,13 +45,13 @@ impl Sort {
     }
 }
 
-const FORM: [Member; 3] = [
+const FORM: [MemberWanted; 3] = [
     must!("form", Text),
     must!("fields", List),
     may!("approval", Flag),
 ];
 
-const NUMBER: [Member; 8] = [
+const NUMBER: [MemberWanted; 8] = [
     must!("key", Text),
     must!("label", Text),
     must!("required", Flag),
@@ -62,7 +62,7 @@ const NUMBER: [Member; 8] = [
     may!("max", Text),
 ];
 
-const TEXT: [Member; 5] = [
+const TEXT: [MemberWanted; 5] = [
     must!("key", Text),
     must!("label", Text),
     must!("required", Flag),
@@ -70,7 +70,7 @@ const TEXT: [Member; 5] = [
     must!("size", Whole),
 ];
 
-const CHOICE: [Member; 5] = [
+const CHOICE: [MemberWanted; 5] = [
     must!("key", Text),
     must!("label", Text),
     must!("required", Flag),
@@ -78,7 +78,7 @@ const CHOICE: [Member; 5] = [
     must!("choices", Texts),
 ];
 
-const OTHER: [Member; 4] = [
+const OTHER: [MemberWanted; 4] = [
     must!("key", Text),
     must!("label", Text),
     must!("required", Flag),

@@ -7,14 +7,15 @@ ghost use Rattle.lab_wire_members.specs.Readings.{FaultyInTurn};
 use lab_forms_texts::{Names, PersonCodes};
 use lab_records_machine::{Founder, Founding};
 use lab_wire_members::{
-    BodyFault, BodyRefusal, Member, each_has, elements_at, has_members, must, named_at, typed_at,
+    BodyFault, BodyRefusal, MemberWanted, each_has, elements_at, has_members, must, named_at,
+    typed_at,
 };
 use serde_json::Value;
 use std::alloc::Global;
 
-const FOUNDING: [Member; 2] = [must!("founders", List), must!("name", Text)];
+const FOUNDING: [MemberWanted; 2] = [must!("founders", List), must!("name", Text)];
 
-const FOUNDER: [Member; 3] = [
+const FOUNDER: [MemberWanted; 3] = [
     must!("code", Text),
     must!("name", Text),
     must!("password", Text),

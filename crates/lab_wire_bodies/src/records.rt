@@ -11,21 +11,21 @@ use lab_forms_texts::{Keys, Names, Notes, Units};
 use lab_records_machine::{Command, RecordCommand, SessionCommand};
 use lab_records_rules::{Altered, Item};
 use lab_wire_members::{
-    BodyFault, BodyRefusal, Element, Member, each_has, each_of, elements_at, has_members, may,
-    must, named_at, named_if_at, ordinal_at, typed_at, wanted_member,
+    BodyFault, BodyRefusal, Element, MemberWanted, each_has, each_of, elements_at, has_members,
+    may, must, named_at, named_if_at, ordinal_at, typed_at, wanted_member,
 };
 use serde_json::Value;
 use std::alloc::Global;
 
-const RECORD: [Member; 2] = [must!("form", Text), must!("sample", Text)];
+const RECORD: [MemberWanted; 2] = [must!("form", Text), must!("sample", Text)];
 
-const ITEM: [Member; 3] = [
+const ITEM: [MemberWanted; 3] = [
     must!("key", Text),
     must!("value", Text),
     must!("unit", Text),
 ];
 
-const ENTRY: [Member; 5] = [
+const ENTRY: [MemberWanted; 5] = [
     must!("record", Ordinal),
     must!("key", Text),
     must!("value", Text),
@@ -33,7 +33,7 @@ const ENTRY: [Member; 5] = [
     may!("reason", Text),
 ];
 
-const AMENDMENT: [Member; 3] = [
+const AMENDMENT: [MemberWanted; 3] = [
     must!("record", Ordinal),
     may!("reason", Text),
     must!("altered", List),

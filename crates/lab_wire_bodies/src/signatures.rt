@@ -11,8 +11,8 @@ use lab_records_machine::{Command, RecordCommand, SessionCommand};
 use lab_records_rules::Signing;
 use lab_seal_hashes::Digest;
 use lab_wire_members::{
-    BodyFault, BodyRefusal, Member, digest_at, has_members, may, must, named_if_at, ordinal_at,
-    str_at, typed_at, wanted_member,
+    BodyFault, BodyRefusal, MemberWanted, digest_at, has_members, may, must, named_if_at,
+    ordinal_at, str_at, typed_at, wanted_member,
 };
 use serde_json::Value;
 use std::alloc::Global;
@@ -39,7 +39,7 @@ impl Meant {
     }
 }
 
-const SIGNATURE: [Member; 6] = [
+const SIGNATURE: [MemberWanted; 6] = [
     must!("record", Ordinal),
     must!("version", Ordinal),
     must!("digest", Digest),
@@ -48,7 +48,7 @@ const SIGNATURE: [Member; 6] = [
     may!("code", Text),
 ];
 
-const REJECTION: [Member; 7] = [
+const REJECTION: [MemberWanted; 7] = [
     must!("record", Ordinal),
     must!("version", Ordinal),
     must!("digest", Digest),

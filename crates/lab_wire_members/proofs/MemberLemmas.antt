@@ -12,7 +12,7 @@ use Rattle.serde_json.specs.Find.{get, as_object}
 use Rattle.serde_json.specs.View.{view, items_view, members_view}
 use Rattle.serde_json.specs.declared.value.Value.{Value}
 use Rattle.lab_people_access.specs.declared.roles.Roles.{Roles}
-use Rattle.lab_wire_members.specs.declared.members.Member.{Member}
+use Rattle.lab_wire_members.specs.declared.members.MemberWanted.{MemberWanted}
 use Rattle.lab_wire_members.specs.Members.{list_of, member_count, MemberRule, rule_shown, keeps, has_members, role_in, role_added, roles_with}
 
 -- ---- lists
@@ -50,7 +50,7 @@ unfolding has_members
 no_object rules d none = rw none refl
 
 -- what the code found: how many members there are, how many of them the rules know, and whether all keep them
-pub object_found : (rules : List Member) (d : Data) (found : Members) (count there : ℕ) (kept : Bool)
+pub object_found : (rules : List MemberWanted) (d : Data) (found : Members) (count there : ℕ) (kept : Bool)
     → as_object d ≡ Some found → member_count found ≡ count
     → there ≡ count_by (λ rule. is_some (get (rule_shown rule).name d)) rules
     → kept ≡ list_all (λ rule. keeps (rule_shown rule) (get (rule_shown rule).name d)) rules
@@ -67,7 +67,7 @@ object_found rules d found count there kept is counts are keep =
     ) refl
 
 -- where it has others
-pub object_others : (rules : List Member) (d : Data) (found : Members) (count there : ℕ)
+pub object_others : (rules : List MemberWanted) (d : Data) (found : Members) (count there : ℕ)
     → as_object d ≡ Some found → member_count found ≡ count
     → there ≡ count_by (λ rule. is_some (get (rule_shown rule).name d)) rules
     → count ≢ there → (count == there) ≡ has_members (map rule_shown rules) d

@@ -12,7 +12,7 @@ use Rattle.lab_people_access.specs.declared.roles.Roles.{Roles as RoleSet}
 use Rattle.lab_people_access.specs.Roles.{role_word, all_roles, no_roles, has_role, with_role}
 use Rattle.lab_wire_members.specs.declared.members.MemberKind.{MemberKind}
 use Rattle.lab_wire_members.specs.declared.members.MemberKind.TheVariants.{Text, Flag, Ordinal, Whole, Digest, Roles, Texts, List as AnyList}
-use Rattle.lab_wire_members.specs.declared.members.Member.{Member}
+use Rattle.lab_wire_members.specs.declared.members.MemberWanted.{MemberWanted}
 
 -- ---- what a value may say
 
@@ -93,7 +93,7 @@ abbrev pub may : List ℕ → MemberKind → MemberRule
 may name kind = record { name = name; kind = kind; is_required = false }
 
 -- as the code has it
-abbrev pub rule_shown : Member → MemberRule
+abbrev pub rule_shown : MemberWanted → MemberRule
 rule_shown m = record { name = m.name.now; kind = m.kind; is_required = m.is_required }
 
 -- what stands at the name is as the rule says

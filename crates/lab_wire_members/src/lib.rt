@@ -8,7 +8,7 @@ mod readings;
 mod refusals;
 mod values;
 
-pub use members::{Member, MemberKind, each_has, elements_at, flag_at, has_members, str_at};
+pub use members::{MemberKind, MemberWanted, each_has, elements_at, flag_at, has_members, str_at};
 pub use parts::{Element, each_of, typed_at};
 pub use readings::{
     admitted_text, digest_at, named_at, named_if_at, ordinal_at, roles_at, text_at, wanted_member,

@@ -41,7 +41,7 @@ pub enum MemberKind {
 
 /// What a body may have at a name, and whether it must have it.
 #[derive(Clone, Copy, Drop)]
-pub struct Member {
+pub struct MemberWanted {
     pub name: &'static str,
     pub kind: MemberKind,
     pub is_required: bool,
@@ -51,7 +51,7 @@ pub struct Member {
 #[macro_export]
 macro_rules! must {
     ($name:literal, $kind:ident) => {
-        $crate::Member {
+        $crate::MemberWanted {
             name: $name,
             kind: $crate::MemberKind::$kind,
             is_required: true,
@@ -63,7 +63,7 @@ macro_rules! must {
 #[macro_export]
 macro_rules! may {
     ($name:literal, $kind:ident) => {
-        $crate::Member {
+        $crate::MemberWanted {
             name: $name,
             kind: $crate::MemberKind::$kind,
             is_required: false,
@@ -223,7 +223,7 @@ fn is_of(kind: MemberKind, value: &Value) -> bool
     }
 }
 
-fn keeps(value: &Value, rule: &Member) -> bool
+fn keeps(value: &Value, rule: &MemberWanted) -> bool
     ensures { result ≡ keeps (rule_shown rule.now)
         (get (rule_shown rule.now).name (view value.now)) }
 {
@@ -233,20 +233,20 @@ fn keeps(value: &Value, rule: &Member) -> bool
     }
 }
 
-fn is_there(value: &Value, rule: &Member) -> bool
+fn is_there(value: &Value, rule: &MemberWanted) -> bool
     ensures { result ≡ is_some (get (rule_shown rule.now).name (view value.now)) }
 {
     value.get(rule.name).is_some()
 }
 
-fn all_kept(value: &Value, rules: &[Member]) -> bool
+fn all_kept(value: &Value, rules: &[MemberWanted]) -> bool
     ensures { result ≡ list_all (λ rule. keeps (rule_shown rule)
         (get (rule_shown rule).name (view value.now))) rules.now }
 {
     rules.iter().all(|rule| keeps(value, rule))
 }
 
-fn count_there(value: &Value, rules: &[Member]) -> usize
+fn count_there(value: &Value, rules: &[MemberWanted]) -> usize
     ensures { result ≡ count_by (λ rule. is_some (get (rule_shown rule).name (view value.now)))
         rules.now }
 {
@@ -254,7 +254,7 @@ fn count_there(value: &Value, rules: &[Member]) -> usize
 }
 
 /// Returns whether a value is an object of exactly these members, whose names differ.
-pub fn has_members(value: &Value, rules: &[Member]) -> bool
+pub fn has_members(value: &Value, rules: &[MemberWanted]) -> bool
     ensures { result ≡ has_members (map rule_shown rules.now) (view value.now) }
 {
     let Some(object) = value.as_object() else {
@@ -263,7 +263,7 @@ pub fn has_members(value: &Value, rules: &[Member]) -> bool
     object.len() == count_there(value, rules) && all_kept(value, rules)
 }
 
-fn all_have(values: &[Value], rules: &[Member]) -> bool
+fn all_have(values: &[Value], rules: &[MemberWanted]) -> bool
     ensures { result ≡ list_all (λ value. has_members (map rule_shown rules.now) (view value))
         values.now }
 {
@@ -294,7 +294,7 @@ pub fn elements_at<'v>(value: &'v Value, name: &str) -> Option<&'v [Value]>
 
 /// Returns whether a list stands at a name, and its elements are objects of exactly these members.
 #[tactic(auto, using(crate::proofs::MemberLemmas::all_of_views))]
-pub fn each_has(value: &Value, name: &str, rules: &[Member]) -> bool
+pub fn each_has(value: &Value, name: &str, rules: &[MemberWanted]) -> bool
     ensures { result ≡ each_has (map rule_shown rules.now)
         (elements_at name.now (view value.now)) }
 {

@@ -9,7 +9,7 @@ ghost use Rattle.lab_wire_members.specs.Readings.{Faulty, wanted, admitted, text
 
 use crate::members;
 use crate::refusals::{BodyFault, BodyRefusal};
-use lab_forms_texts::{NameFault, Ordinal, Rule, Text};
+use lab_forms_texts::{NameFault, Ordinal, Text, TextRule};
 use lab_people_access::Roles;
 use lab_seal_hashes::Digest;
 use serde_json::Value;
@@ -19,7 +19,7 @@ use std::alloc::Global;
 ///
 /// # Errors
 /// The body is refused, or memory ran out.
-pub fn admitted_text<R: Rule>(alloc: Global, text: &str) -> Result<Text<R>, BodyFault>
+pub fn admitted_text<R: TextRule>(alloc: Global, text: &str) -> Result<Text<R>, BodyFault>
     ensures read { IfOk result (λ named. admitted R.admits text.now ≡ Ok named) }
     ensures fault { IfErr result (Faulty (admitted R.admits text.now)) }
 {
@@ -34,7 +34,7 @@ pub fn admitted_text<R: Rule>(alloc: Global, text: &str) -> Result<Text<R>, Body
 ///
 /// # Errors
 /// The body is refused, or memory ran out.
-pub fn named_at<R: Rule>(alloc: Global, value: &Value, name: &str) -> Result<Text<R>, BodyFault>
+pub fn named_at<R: TextRule>(alloc: Global, value: &Value, name: &str) -> Result<Text<R>, BodyFault>
     ensures read { IfOk result (λ named. named_at R.admits name.now (view value.now) ≡ Ok named) }
     ensures fault { IfErr result (Faulty (named_at R.admits name.now (view value.now))) }
 {
@@ -49,7 +49,7 @@ pub fn named_at<R: Rule>(alloc: Global, value: &Value, name: &str) -> Result<Tex
 ///
 /// # Errors
 /// The body is refused, or memory ran out.
-pub fn named_if_at<R: Rule>(
+pub fn named_if_at<R: TextRule>(
     alloc: Global,
     value: &Value,
     name: &str,

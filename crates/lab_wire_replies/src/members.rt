@@ -6,7 +6,7 @@ ghost use Rattle.lab_wire_replies.specs.Parts.{members_onto, members_from, objec
 ghost use Rattle.lab_wire_replies.specs.Members.{told_data, member_data};
 
 use crate::parts::{moment_text, put, text_value};
-use lab_forms_texts::{Moment, Ordinal, OutOfMemory, Rule, Text};
+use lab_forms_texts::{Moment, Ordinal, OutOfMemory, Text, TextRule};
 use lab_seal_versions::State;
 use serde_json::{Map, Value};
 use std::alloc::Global;
@@ -93,7 +93,7 @@ pub fn bytes<'a>(name: &'static str, bytes: [u8; 32]) -> Member<'a>
 }
 
 /// Returns a member whose value is a text, or the empty text if none is given.
-pub fn text_if_any<'a, R: Rule>(name: &'static str, given: &'a Option<Text<R>>) -> Member<'a>
+pub fn text_if_any<'a, R: TextRule>(name: &'static str, given: &'a Option<Text<R>>) -> Member<'a>
     ensures { member_data result ≡ (name.now, text_or_empty given.now) }
 {
     match given {

@@ -6,7 +6,7 @@ ghost use Rattle.lab_forms_texts.specs.Moment.{moment_text};
 ghost use Rattle.hex.specs.Hex.{encode_lower};
 ghost use Rattle.lab_wire_replies.specs.Parts.{list_from, moment_data, digits_data, text_or_empty, state_data, current_data};
 
-use lab_forms_texts::{Moment, Ordinal, OutOfMemory, Rule, Text};
+use lab_forms_texts::{Moment, Ordinal, OutOfMemory, Text, TextRule};
 use lab_seal_hashes::{Digest, Half};
 use lab_seal_versions::{Seal, State};
 use serde_json::{Map, Value};
@@ -39,7 +39,7 @@ pub fn list_of<G, T: Shown<G>>(alloc: Global, things: &[T]) -> Result<Vec<Value>
 /// The group of all replies: a text has the same form in each.
 pub struct AnyReply;
 
-impl<R: Rule> Shown<AnyReply> for Text<R> {
+impl<R: TextRule> Shown<AnyReply> for Text<R> {
     ghost data_of = { string };
 
     fn value(&self, alloc: Global) -> Result<Value, OutOfMemory> {

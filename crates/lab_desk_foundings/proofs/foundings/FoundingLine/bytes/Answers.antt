@@ -1,6 +1,6 @@
 use Rattle.std.proofs.Common.{sym}
 use Rattle.lab_desk_foundings.proofs.KnownFoundings.{memory_line_text}
-use Rattle.lab_desk_foundings.proofs.foundings.Line.bytes.Goals as goal
+use Rattle.lab_desk_foundings.proofs.foundings.FoundingLine.bytes.Goals as goal
 
 -- the constant is the line that the table of faults gives for lack of memory
 pub returns-in-None : goal.returns-in-None
