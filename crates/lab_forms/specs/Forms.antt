@@ -13,6 +13,7 @@ use Rattle.lab_forms_texts.specs.declared.refusals.Fault.{Fault}
 use Rattle.lab_forms_texts.specs.declared.refusals.Fault.TheVariants.{Refused, Memory}
 use Rattle.lab_forms.specs.Words.{has_text_twice}
 use Rattle.lab_forms.specs.Kinds.{is_kind, kind_eq, is_value, unit_of, is_in_range, fits}
+use Rattle.lab_forms.specs.declared.forms.TheConstants.{FIELDS_LIMIT}
 
 abbrev pub key_of : Field → List ℕ
 key_of field = field.key
@@ -23,7 +24,7 @@ is_field field = is_kind field.kind
 
 -- the most fields of a form
 abbrev pub field_limit : ℕ
-field_limit = 60
+field_limit = FIELDS_LIMIT
 
 -- at least one field, and no more than the limit, each one that a form may have, no two with one
 -- key

@@ -9,6 +9,7 @@ use Rattle.lab_forms.specs.declared.kinds.Kind.TheVariants.{Number, Text, Choice
 use Rattle.lab_forms.specs.Numbers.{is_number, amount_read, without_comparison}
 use Rattle.lab_forms.specs.Dates.{is_date}
 use Rattle.lab_forms.specs.Words.{has_text, has_text_twice}
+use Rattle.lab_forms.specs.declared.kinds.TheConstants.{SIZE_LIMIT, CHOICES_LIMIT}
 
 -- the form of a value's text: a number may have a `<` or a `>` in front
 abbrev pub has_form : Kind → List ℕ → Bool
@@ -67,9 +68,9 @@ abbrev pub is_kind : Kind → Bool
 is_kind (Number unit decimals min max) =
     nat_le decimals 6 && is_bound decimals min && is_bound decimals max
     && is_at_most (bound_amount decimals min) (bound_amount decimals max)
-is_kind (Text size) = nat_le 1 size && nat_le size 1000
+is_kind (Text size) = nat_le 1 size && nat_le size SIZE_LIMIT
 is_kind (Choice choices) =
-    nat_le 1 (length choices) && nat_le (length choices) 20 && not (has_text_twice choices)
+    nat_le 1 (length choices) && nat_le (length choices) CHOICES_LIMIT && not (has_text_twice choices)
 is_kind Date = true
 is_kind YesNo = true
 

@@ -15,7 +15,7 @@ use std::alloc::{AllocError, Global};
 use std::marker::Model;
 
 /// The most fields of a form.
-const FIELDS_LIMIT: usize = 60;
+pub const FIELDS_LIMIT: usize = 60;
 
 /// A field of a form.
 #[derive(Debug)]

@@ -12,10 +12,10 @@ use std::alloc::AllocError;
 use std::marker::Model;
 
 /// The most bytes of a text value.
-const SIZE_LIMIT: u32 = 1000;
+pub const SIZE_LIMIT: u32 = 1000;
 
 /// The most choices of a field.
-const CHOICES_LIMIT: usize = 20;
+pub const CHOICES_LIMIT: usize = 20;
 
 /// The least or the greatest amount of a number, as it is written. A bound can be any text: whether
 /// it is a number is tested when a form is made.

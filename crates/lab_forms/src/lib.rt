@@ -10,7 +10,7 @@ mod values;
 mod words;
 
 pub use faults::{FormFault, FormRefusal};
-pub use forms::{Field, Form};
+pub use forms::{FIELDS_LIMIT, Field, Form};
 pub use kinds::{Bound, Choices, Kind};
 pub use lab_forms_texts::{
     Fault, Key, LabCode, Moment, MomentFault, Name, NameFault, Note, OutOfMemory, PersonCode,

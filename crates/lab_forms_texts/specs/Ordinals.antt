@@ -1,10 +1,11 @@
 -- The numbers by which records, versions, sessions and rows of a trail are counted: from 1 to
 -- 1,000,000,000.
 use Rattle.std.specs.Prelude.{ℕ, Bool, ◌&&◌, nat_le, Option, Some, None, if◌then◌else◌}
+use Rattle.lab_forms_texts.specs.declared.ordinals.TheConstants.{LAST_ORDINAL}
 
 -- the last of them
 abbrev pub last_ordinal : ℕ
-last_ordinal = 1000000000
+last_ordinal = LAST_ORDINAL
 
 abbrev pub is_ordinal : ℕ → Bool
 is_ordinal n = nat_le 1 n && nat_le n last_ordinal

@@ -13,12 +13,12 @@ mod tick;
 mod typed;
 
 pub use faults::{BadName, MomentFault, NameFault, OutOfMemory};
-pub use moment::Moment;
+pub use moment::{LAST_SECOND, Moment};
 pub use names::{
     Key, Keys, LabCode, LabCodes, Name, Names, Note, Notes, PersonCode, PersonCodes, Unit, Units,
     Writing, Writings,
 };
-pub use ordinals::Ordinal;
+pub use ordinals::{LAST_ORDINAL, Ordinal};
 pub use refusals::{Fault, RefusalKind};
 pub use series::Series;
 pub use text::{Text, TextRule};

@@ -9,7 +9,7 @@ use jiff_core::civil::{Date, DateTime, Time};
 use std::marker::Model;
 
 /// The seconds of the last moment, 9999-12-31T23:59:59Z.
-const LAST_SECOND: i64 = 253_402_300_799;
+pub const LAST_SECOND: i64 = 253_402_300_799;
 
 /// The length of a moment's text in bytes.
 const TEXT_LEN: usize = 20;

@@ -7,25 +7,25 @@ ghost use Rattle.lab_forms_texts.specs.Names.{is_code_byte, is_code, is_lab_code
 use crate::text::{Text, TextRule};
 
 /// The most characters of a laboratory's code.
-const LAB_CODE_LIMIT: usize = 12;
+pub const LAB_CODE_LIMIT: usize = 12;
 
 /// The fewest characters of a person's code.
-const PERSON_CODE_LEAST: usize = 2;
+pub const PERSON_CODE_LEAST: usize = 2;
 
 /// The most characters of a person's code.
-const PERSON_CODE_LIMIT: usize = 16;
+pub const PERSON_CODE_LIMIT: usize = 16;
 
 /// The most characters of a key.
-const KEY_LIMIT: usize = 24;
+pub const KEY_LIMIT: usize = 24;
 
 /// The most bytes of a name.
-const NAME_LIMIT: usize = 120;
+pub const NAME_LIMIT: usize = 120;
 
 /// The most bytes of a note.
-const NOTE_LIMIT: usize = 1000;
+pub const NOTE_LIMIT: usize = 1000;
 
 /// The most bytes of a unit.
-const UNIT_LIMIT: usize = 20;
+pub const UNIT_LIMIT: usize = 20;
 
 /// The DEL character.
 const DELETE: u8 = 0x7f;

@@ -5,7 +5,7 @@ ghost use Rattle.lab_forms_texts.specs.Ordinals.{is_ordinal, ordinal_of};
 use std::marker::Model;
 
 /// The last ordinal.
-const LAST: u32 = 1_000_000_000;
+pub const LAST_ORDINAL: u32 = 1_000_000_000;
 
 /// A number from 1 to 1,000,000,000, for records, versions, sessions and rows of a trail.
 ///
@@ -36,7 +36,7 @@ impl Ordinal {
     pub fn new(number: u32) -> Option<Ordinal>
         ensures { result ≡ ordinal_of number }
     {
-        if number == 0 || number > LAST {
+        if number == 0 || number > LAST_ORDINAL {
             return None;
         }
         Some(Ordinal { number })
@@ -46,7 +46,7 @@ impl Ordinal {
     pub fn after(count: u32) -> Option<Ordinal>
         ensures { result ≡ ordinal_of (count + 1) }
     {
-        if count >= LAST {
+        if count >= LAST_ORDINAL {
             return None;
         }
         Ordinal::new(count + 1)

@@ -10,20 +10,13 @@ use crate::orders::{
     are_forms_in_order, are_forms_numbered, are_in_order, are_records_numbered,
     are_sessions_numbered, are_told_numbered, are_versions_numbered,
 };
+use lab_forms::FIELDS_LIMIT;
 use lab_forms_texts::{Key, Ordinal};
+use lab_people_access::PERSONS_LIMIT;
 use lab_records_kept::{
     COUNT_LIMIT, FORM_VERSIONS_LIMIT, FormVersion, Lab, RECORDS_LIMIT, ROWS_LIMIT, Record,
-    VERSIONS_LIMIT, Version,
+    STRAYS_LIMIT, VERSIONS_LIMIT, Version,
 };
-
-/// The most persons.
-const PERSONS_LIMIT: usize = 500;
-
-/// The most fields of a form.
-const FIELDS_LIMIT: usize = 60;
-
-/// The count at which stray passwords are counted no further.
-const STRAYS_LIMIT: u64 = 9_223_372_036_854_775_807;
 
 // Whether a version of a form has no greater number, and no more fields, than it may.
 fn is_small_form(form: &FormVersion) -> bool
@@ -78,7 +71,7 @@ fn is_by_form(forms: &[FormVersion], kept: &Record) -> bool
 fn are_few(lab: &Lab) -> bool
     ensures { result ≡ are_few lab.now }
 {
-    lab.persons.as_slice().len() <= PERSONS_LIMIT
+    lab.persons.as_slice().len() <= PERSONS_LIMIT as usize
         && lab.sessions.as_slice().len() as u64 <= COUNT_LIMIT
         && lab.trail.as_slice().len() as u64 <= COUNT_LIMIT
         && lab.records.as_slice().len() as u64 <= RECORDS_LIMIT

@@ -10,17 +10,15 @@ ghost use Rattle.lab_move_read_people.specs.Cells.{are_null, has_no_password};
 ghost use Rattle.lab_move_read_people.specs.Persons.{password_cells, ask_cells, ask_by_row};
 
 use crate::cells::{bytes_due, is_null, moment_due, salt_due, small_due};
-use lab_people_access::Password;
+use lab_people_access::{OLD_ROUNDS, Password};
 use lab_seal_hashes::Verifier;
 use lab_store_read::cells::{id_if, small_of};
 use lab_store_read::{BadStore, ReadFault};
 use lab_store_read_people::AskHead;
 use sqlite::Row;
 
-/// The rounds of every verifier in a file of schema 2.
-const OLD_ROUNDS: u32 = 10_000;
-
-// The verifier whose salt and bytes stand in two columns; its rounds are those that every one has.
+// The verifier whose salt and bytes stand in two columns; every verifier of a file of schema 2 has
+// the old rounds.
 fn verifier_of(row: &Row, salt: usize, made: usize) -> Result<Verifier, ReadFault>
     ensures { IfOk result (λ verifier. verifier
         ≡ verifier_in (optional_in bytes (column row.now salt))

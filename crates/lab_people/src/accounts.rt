@@ -4,12 +4,9 @@ ghost use Rattle.lab_people.specs.Accounts.{changing, enrolling, person_meant, s
 
 use lab_forms_texts::{Name, PersonCode, Tick};
 use lab_people_access::{
-    Closing, Password, PeopleFault, PeopleRefusal, Person, Roles, Session, attempt,
+    Closing, PERSONS_LIMIT, Password, PeopleFault, PeopleRefusal, Person, Roles, Session, attempt,
 };
 use lab_seal_hashes::salt;
-
-/// The most persons of a laboratory.
-const PERSONS_LIMIT: u32 = 500;
 
 /// The result of a change of a password.
 #[derive(Drop)]

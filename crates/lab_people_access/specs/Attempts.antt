@@ -7,6 +7,7 @@ use Rattle.lab_people_access.specs.declared.refusals.Failure.{Failure}
 use Rattle.lab_people_access.specs.declared.refusals.Failure.TheVariants.{Counted, Locking, AlreadyLocked, Stray}
 use Rattle.lab_people_access.specs.Passwords.{is_set, accepts}
 use Rattle.lab_people_access.specs.Persons.{is_locked, unlocked_person}
+use Rattle.lab_people_access.specs.declared.attempts.TheConstants.{FAILURES_TO_LOCK}
 
 -- the failed passwords that count: none where there was a lock, which has expired
 abbrev pub failure_count : Option ℕ → ℕ → ℕ
@@ -15,7 +16,7 @@ failure_count (Some since) failures = 0
 
 -- the failed passwords of which the last locks
 abbrev pub failures_to_lock : ℕ
-failures_to_lock = 5
+failures_to_lock = FAILURES_TO_LOCK
 
 -- a person with so many failed passwords, and no lock
 abbrev pub counted_person : ℕ → Person → Person

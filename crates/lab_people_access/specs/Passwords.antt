@@ -7,13 +7,14 @@ use Rattle.lab_seal_hashes.specs.declared.verifiers.VerifierParts.{VerifierParts
 use Rattle.lab_seal_hashes.specs.Verifiers.{verifier_of, is_verified}
 use Rattle.lab_people_access.specs.declared.passwords.Password.{Password}
 use Rattle.lab_people_access.specs.declared.passwords.Password.TheVariants.{Unset, Chosen, OneTime}
+use Rattle.lab_people_access.specs.declared.passwords.TheConstants.{PASSWORD_LEAST, PASSWORD_LIMIT, ROUNDS, OLD_ROUNDS, HALF_LEN, SECONDS_OF_ONE_TIME_WORD, DAYS_OF_PASSWORD}
 
 -- the fewest bytes of a password that may be chosen, and the most
 abbrev pub password_least : ℕ
-password_least = 12
+password_least = PASSWORD_LEAST
 
 abbrev pub password_most : ℕ
-password_most = 128
+password_most = PASSWORD_LIMIT
 
 -- a text may be chosen as a password
 abbrev pub is_password : List ℕ → Bool
@@ -21,10 +22,10 @@ is_password text = nat_le password_least (length text) && nat_le (length text) p
 
 -- the rounds by which every new verifier is made, and those by which they were made before
 abbrev pub new_rounds : ℕ
-new_rounds = 100000
+new_rounds = ROUNDS
 
 abbrev pub old_rounds : ℕ
-old_rounds = 10000
+old_rounds = OLD_ROUNDS
 
 -- a verifier has so many rounds, whenever it was made
 abbrev pub are_rounds : ℕ → Bool
@@ -36,7 +37,7 @@ chosen_password text salt moment = Chosen (verifier_of text salt new_rounds) mom
 
 -- the digits of a half of a one-time word
 abbrev pub half_len : ℕ
-half_len = 32
+half_len = HALF_LEN
 
 -- a text as long as a one-time word (`one_time_word` of lab_seal_hashes), of which each half has a
 -- verifier of its own
@@ -47,7 +48,7 @@ are_verified first second text =
 
 -- the seconds for which a one-time word serves after it was confirmed: seven days
 abbrev pub word_span : ℕ
-word_span = 604800
+word_span = SECONDS_OF_ONE_TIME_WORD
 
 -- a one-time word that was confirmed at a moment serves at another
 abbrev pub serves : ℕ → ℕ → Bool
@@ -68,7 +69,7 @@ is_set (OneTime first second confirmed) = true
 
 -- the days for which a chosen password stands
 abbrev pub password_days : ℕ
-password_days = 90
+password_days = DAYS_OF_PASSWORD
 
 -- a password is due to be changed: one that was chosen more than 90 days ago, by days of the
 -- calendar; every one-time word; and where there is none

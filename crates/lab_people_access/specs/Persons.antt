@@ -5,10 +5,11 @@
 use Rattle.std.specs.Prelude.{ℕ, ◌-◌, Bool, false, nat_lt, nat_le, List, [], ◌∷◌, Option, Some, None, is_some, bytes_eq, if◌then◌else◌}
 use Rattle.lab_people_access.specs.declared.persons.Person.{Person}
 use Rattle.lab_people_access.specs.declared.persons.Ask.{Ask}
+use Rattle.lab_people_access.specs.declared.persons.TheConstants.{PERSONS_LIMIT, SECONDS_OF_LOCK, SECONDS_OF_ASK}
 
 -- the most persons of a laboratory, retired ones too
 abbrev pub person_limit : ℕ
-person_limit = 500
+person_limit = PERSONS_LIMIT
 
 -- who has the code, or had it, among the persons of a laboratory
 abbrev pub person_of : List Person → List ℕ → Option Person
@@ -21,7 +22,7 @@ has_code persons code = is_some (person_of persons code)
 
 -- the seconds for which a lock lasts
 abbrev pub lock_span : ℕ
-lock_span = 1800
+lock_span = SECONDS_OF_LOCK
 
 -- a person is locked from the moment of the lock on
 abbrev pub is_locked : Option ℕ → ℕ → Bool
@@ -34,7 +35,7 @@ unlocked_person person = record person { failures = 0; locked = None }
 
 -- the seconds for which it stands what was asked for: seven days
 abbrev pub ask_span : ℕ
-ask_span = 604800
+ask_span = SECONDS_OF_ASK
 
 -- what was asked for still stands
 abbrev pub stands : Ask → ℕ → Bool

@@ -5,6 +5,7 @@ use Rattle.std.specs.Prelude.{ℕ, ◌-◌, Bool, true, false, not, ◌&&◌, �
 use Rattle.lab_people_access.specs.declared.sessions.Session.{Session}
 use Rattle.lab_people_access.specs.declared.sessions.Closing.{Closing}
 use Rattle.lab_people_access.specs.declared.sessions.Closing.TheVariants.{Nothing, All, Others}
+use Rattle.lab_people_access.specs.declared.sessions.TheConstants.{REST_SPAN, SECONDS_OF_SESSION}
 
 -- the session whose token has the digest, open or closed, among those of a laboratory
 abbrev pub session_of : List Session → List ℕ → Option Session
@@ -19,10 +20,10 @@ has_token sessions digest = is_some (session_of sessions digest)
 -- the seconds that a session lives after its last request, and those after its opening: 15 minutes
 -- and 8 hours
 abbrev pub rest_span : ℕ
-rest_span = 900
+rest_span = REST_SPAN
 
 abbrev pub session_span : ℕ
-session_span = 28800
+session_span = SECONDS_OF_SESSION
 
 -- a session lives while it isn't closed, until one of its spans has passed
 abbrev pub is_live : Session → ℕ → Bool

@@ -8,7 +8,7 @@ use crate::refusals::Failure;
 use lab_forms_texts::{Moment, PersonCode};
 
 /// The number of failed passwords that locks an account.
-const FAILURES_TO_LOCK: u32 = 5;
+pub const FAILURES_TO_LOCK: u32 = 5;
 
 /// Checks a text as the password of a person, who was looked up by a code. Returns the person
 /// without failed passwords and without a lock.

@@ -16,8 +16,8 @@ mod times;
 
 pub use attempts::{attempt, attempt_signing};
 pub use openings::{Opened, open_session};
-pub use passwords::{Password, ROUNDS, are_rounds};
-pub use persons::{Ask, Person};
+pub use passwords::{OLD_ROUNDS, Password, ROUNDS, are_rounds};
+pub use persons::{Ask, PERSONS_LIMIT, Person};
 pub use policy::{Rule, permission};
 pub use refusals::{Failure, PeopleFault, PeopleRefusal};
 pub use roles::{Role, Roles};

@@ -10,22 +10,22 @@ use lab_seal_hashes::Verifier;
 pub const ROUNDS: u32 = 100_000;
 
 /// The rounds of older verifiers. An old verifier keeps its rounds, and is checked with them.
-const OLD_ROUNDS: u32 = 10_000;
+pub const OLD_ROUNDS: u32 = 10_000;
 
 /// The fewest bytes of a new password.
-const PASSWORD_LEAST: usize = 12;
+pub const PASSWORD_LEAST: usize = 12;
 
 /// The most bytes of a new password.
-const PASSWORD_LIMIT: usize = 128;
+pub const PASSWORD_LIMIT: usize = 128;
 
 /// The most days after the day of its choice on which a password isn't due yet.
-const DAYS_OF_PASSWORD: u64 = 90;
+pub const DAYS_OF_PASSWORD: u64 = 90;
 
 /// The most seconds after its confirmation at which a one-time word is accepted.
-const SECONDS_OF_ONE_TIME_WORD: u64 = 604_800;
+pub const SECONDS_OF_ONE_TIME_WORD: u64 = 604_800;
 
 /// The length of a written half of a one-time word, in bytes.
-const HALF_LEN: usize = 32;
+pub const HALF_LEN: usize = 32;
 
 /// Whether a verifier may have this number of rounds: that of new verifiers or that of older ones.
 pub fn are_rounds(rounds: u32) -> bool

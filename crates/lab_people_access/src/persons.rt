@@ -10,11 +10,14 @@ use lab_seal_hashes::Verifier;
 use std::alloc::AllocError;
 use std::fmt;
 
+/// The most persons of a laboratory, retired ones too.
+pub const PERSONS_LIMIT: u32 = 500;
+
 /// The seconds for which a lock lasts.
-const SECONDS_OF_LOCK: u64 = 1800;
+pub const SECONDS_OF_LOCK: u64 = 1800;
 
 /// The most seconds for which a request of an administrator can be confirmed.
-const SECONDS_OF_ASK: u64 = 604_800;
+pub const SECONDS_OF_ASK: u64 = 604_800;
 
 /// A person of a laboratory, with the account. Its `Debug` text is the code only.
 pub struct Person {

@@ -10,10 +10,10 @@ use lab_seal_hashes::Digest;
 use std::alloc::AllocError;
 
 /// The most seconds that a session stays open after its last request.
-const REST_SPAN: u64 = 900;
+pub const REST_SPAN: u64 = 900;
 
 /// The most seconds that a session stays open after its opening.
-const SECONDS_OF_SESSION: u64 = 28_800;
+pub const SECONDS_OF_SESSION: u64 = 28_800;
 
 /// One continuous period in which a person works.
 #[derive(Debug)]

@@ -5,6 +5,7 @@ ghost use Rattle.clap.specs.Words.{app_of, new_app, rule_of, with_rule};
 ghost use Rattle.lab_program_app.specs.Apps.{check_app, copy_app, count_rule, file_rule, found_app, lab_rule, migrate_app, moment_rule, named_rule, number_rule, port_rule, rehearse_app, replay_app, serve_app, wanted_rule, with_file_and_lab, with_old_and_new, with_port_and_count, with_range};
 
 use clap::{Arg, Command, value_parser};
+use lab_forms_texts::LAST_SECOND;
 use std::alloc::{AllocError, Global};
 
 /// The help of `found`.
@@ -66,9 +67,6 @@ socket of this machine at the given moment, and prints the reply. The input is a
 that of `labdesk found`, and is described in docs/FORMATS.md. An example:
 
     labdesk rehearse --lab aqua --moment 100 < examples/founding.json";
-
-/// The seconds of the last moment.
-const LAST_SECOND: i64 = 253_402_300_799;
 
 /// The greatest number of connections that are served.
 const MOST_CONNECTIONS: i64 = 1_000_000_000;

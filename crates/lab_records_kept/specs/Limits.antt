@@ -1,7 +1,7 @@
 -- How much a laboratory holds at the most; and that what is numbered in it is numbered from 1 on
 -- without gaps. How many persons it has is said in lab_people_access, and how many fields a form has in
--- lab_forms; every other limit stands here, and src/limits.rt has its constant. The numbers are
--- this system's own.
+-- lab_forms; every other limit stands here. The number of each is the constant of src/limits.rt, and
+-- is this system's own.
 use Rattle.std.specs.Prelude.{◌≡◌, ◌≤◌, ℕ, ◌+◌, IsTrue, false, List, [], ◌∷◌, ◌++◌, length, Some, All}
 use Rattle.lab_forms_texts.specs.Ordinals.{last_ordinal}
 use Rattle.lab_records_kept.specs.declared.records.FormVersion.{FormVersion}
@@ -12,22 +12,23 @@ use Rattle.lab_people_access.specs.Persons.{person_limit}
 use Rattle.lab_forms.specs.Forms.{field_limit}
 use Rattle.lab_records_kept.specs.declared.labs.Lab.{Lab}
 use Rattle.lab_records_kept.specs.Lookups.{last_form, exact_form, next_form_version, comes_before}
+use Rattle.lab_records_kept.specs.declared.limits.TheConstants.{FORM_VERSIONS_LIMIT, RECORDS_LIMIT, VERSIONS_LIMIT, ROWS_LIMIT, STRAYS_LIMIT}
 
 -- the most versions of a form
 abbrev pub form_version_limit : ℕ
-form_version_limit = 99
+form_version_limit = FORM_VERSIONS_LIMIT
 
 -- the most records
 abbrev pub record_limit : ℕ
-record_limit = 1000000
+record_limit = RECORDS_LIMIT
 
 -- the most versions of a record
 abbrev pub version_limit : ℕ
-version_limit = 99
+version_limit = VERSIONS_LIMIT
 
 -- the most rows of a version
 abbrev pub row_limit : ℕ
-row_limit = 200
+row_limit = ROWS_LIMIT
 
 -- the most sessions, and the most rows of the trail
 abbrev pub count_limit : ℕ
@@ -35,7 +36,7 @@ count_limit = last_ordinal
 
 -- the count at which passwords that were given for nobody's account are counted no further
 abbrev pub stray_limit : ℕ
-stray_limit = 9223372036854775807
+stray_limit = STRAYS_LIMIT
 
 -- the items bear the numbers from the one after `before` on, in order
 abbrev pub AreNumberedAfter : {A : Type 0} → (A → ℕ) → ℕ → List A → Type 0

@@ -29,7 +29,9 @@ pub use lab_seal_versions::{
 };
 pub use labs::Lab;
 pub use laws::what_is_released;
-pub use limits::{COUNT_LIMIT, FORM_VERSIONS_LIMIT, RECORDS_LIMIT, ROWS_LIMIT, VERSIONS_LIMIT};
+pub use limits::{
+    COUNT_LIMIT, FORM_VERSIONS_LIMIT, RECORDS_LIMIT, ROWS_LIMIT, STRAYS_LIMIT, VERSIONS_LIMIT,
+};
 pub use needs::{FormWanted, LabCounts, ListWanted, Need, RecordWanted, Slice};
 pub use records::{FormVersion, Record, Signature, Version};
 pub use trails::{Action, Deed, Occasion, Subject, TrailRow};

@@ -16,3 +16,6 @@ pub const ROWS_LIMIT: usize = 200;
 
 /// The most sessions, and the most rows of the trail.
 pub const COUNT_LIMIT: u64 = 1_000_000_000;
+
+/// The count at which passwords that were given for nobody's account are counted no further.
+pub const STRAYS_LIMIT: u64 = 9_223_372_036_854_775_807;

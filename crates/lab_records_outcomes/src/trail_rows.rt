@@ -8,11 +8,8 @@ ghost use Rattle.lab_records_outcomes.specs.Deciding.{IsFailureWritten, trail_ro
 use crate::subjects::subject_of;
 use lab_forms_texts::{Moment, Ordinal, OutOfMemory, PersonCode, Series};
 use lab_people_access::{Closing, Failure, Person};
-use lab_records_kept::{COUNT_LIMIT, Change, Deed, Occasion, TrailRow};
+use lab_records_kept::{COUNT_LIMIT, Change, Deed, Occasion, STRAYS_LIMIT, TrailRow};
 use std::alloc::Global;
-
-/// The count at which passwords that count as stray are no longer counted.
-const STRAYS_LIMIT: u64 = 9_223_372_036_854_775_807;
 
 /// Returns the number of the next row, if the trail has room for it.
 pub fn next_number(rows: u64) -> Option<Ordinal>
