@@ -12,10 +12,10 @@ use Rattle.lab_records_kept.specs.declared.labs.Lab.{Lab}
 use Rattle.lab_records_keeper.specs.Worlds.{Meaning, SameMeaning, Places}
 use Rattle.lab_store_tables.specs.Rows.{LabRow, Tables}
 use Rattle.lab_store_tables.specs.Meaning.{has_code, lab_in, meaning}
-use Rattle.lab_store_read.proofs.Lists.{text_is, text_alike}
 use Rattle.lab_move_tables.specs.Shown.{by_lab}
 use Rattle.lab_move_read.specs.Laboratories.{codes_of, IsLabOf, IsLabOfRow}
 use Rattle.lab_move.specs.Moving.{meaning_among}
+use Rattle.lab_store_tables.proofs.Comparing.{text_is, text_alike}
 
 total_by_lab : IsTotalOrder by_lab
 total_by_lab = record {

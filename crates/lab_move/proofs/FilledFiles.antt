@@ -7,13 +7,13 @@ use Rattle.lab_records_keeper.specs.Worlds.{Meaning, SameMeaning, Places}
 use Rattle.lab_records_laws.specs.Stepping.{WhereThere}
 use Rattle.lab_store_tables.specs.Rows.{Tables, tables_in}
 use Rattle.lab_store_tables.specs.Meaning.{meaning}
-use Rattle.lab_store_read.proofs.Lists.{text_is, text_alike}
 use Rattle.lab_move_tables.specs.Reading.{ReadsOld}
 use Rattle.lab_move_tables.proofs.OldReaders.{stands_since}
 use Rattle.lab_move_files.specs.Unfinished.{Finishes}
 use Rattle.lab_move_read.specs.Laboratories.{codes_of, IsLabOf}
 use Rattle.lab_move.specs.Moving.{IsSoundLab, AreAll, ReadsOldAs, IsBegun, HasCarried, HasThese, IsWholeOf, IsWhole, CarriesFrom, meaning_among}
 use Rattle.lab_move.proofs.Codes.{all_among, lab_means, among_more}
+use Rattle.lab_store_tables.proofs.Comparing.{text_is, text_alike}
 
 -- ---- facts on every laboratory
 

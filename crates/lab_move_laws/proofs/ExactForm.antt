@@ -13,10 +13,11 @@ use Rattle.lab_store_tables.specs.Rows.{FormRow, Tables, form_id}
 use Rattle.lab_store_tables.specs.Meaning.{form_in, by_form, forms_of, form_at}
 use Rattle.lab_store_tables.specs.WellKept.{same_form}
 use Rattle.lab_store_tables.specs.Changes.{is_form_row, form_named}
-use Rattle.lab_store_laws.proofs.LabLaws.{alike, text_is, same_id}
+use Rattle.lab_store_laws.proofs.LabLaws.{alike, same_id}
 use Rattle.lab_store_laws.proofs.KeptParts.{KeptParts}
 use Rattle.lab_store_laws.proofs.OrderLaws.{sorted_has, shown_has, found_alone}
 use Rattle.lab_store_laws.proofs.RowSet.{same_key_row}
+use Rattle.lab_store_tables.proofs.Comparing.{text_is}
 
 -- what stands for a form where an arrow leads to none
 abbrev no_form : FormVersion

@@ -21,11 +21,10 @@ use Rattle.lab_store_laws.proofs.Tables.{rising_with}
 use Rattle.lab_store_laws.proofs.Bridges.{apart_from_test}
 use Rattle.lab_store_laws.proofs.FoundingKept.{lab_more}
 use Rattle.lab_store_laws.proofs.Kept.{well_kept}
-use Rattle.lab_store_laws.proofs.LabLaws.{text_is}
-use Rattle.lab_store_laws.proofs.Named.{text_alike}
 use Rattle.lab_store_laws.proofs.Parts.{AreLed, arrows_led}
 use Rattle.lab_store_laws.proofs.PutLaws.{none_led, find_other, find_alone, apart_back}
 use Rattle.lab_move_laws.proofs.PlacingWords.{emptied}
+use Rattle.lab_store_tables.proofs.Comparing.{text_is, text_alike}
 
 -- ---- its code was nobody's
 

@@ -28,7 +28,7 @@ use Rattle.lab_store_laws.proofs.Kept.{AreRowsKept, AreCounted, AreCurrent, AreA
 use Rattle.lab_store_laws.proofs.PutRows.{count_put, new_found}
 use Rattle.lab_store_laws.proofs.FreeIds.{none_has, none_leads}
 use Rattle.lab_store_laws.proofs.Ids.{own_ids, versions_lead}
-use Rattle.lab_store_laws.proofs.Named.{turned, of_same, named_lab, form_lab, form_code}
+use Rattle.lab_store_laws.proofs.Named.{of_same, named_lab, form_lab, form_code}
 use Rattle.lab_store_laws.proofs.Puts.{put_kept}
 use Rattle.lab_store_laws.proofs.Sets.{lab_set}
 use Rattle.lab_store_laws.proofs.Counters.{records_counted}
@@ -38,6 +38,7 @@ use Rattle.lab_store_laws.proofs.VersionKept.{HasVersion, entries_more}
 use Rattle.lab_store_laws.proofs.Turns.{turns_leave, turns_keep}
 use Rattle.lab_move_laws.proofs.Wholes.{IsWholeRecord}
 use Rattle.lab_move_laws.proofs.VersionsInTurn.{number_in}
+use Rattle.lab_store_laws.proofs.OneRow.{turned}
 
 -- ---- a first version has no reason, and every other one has
 

@@ -33,7 +33,7 @@ use Rattle.lab_store_tables.specs.Meaning.{has_code, by_form, code_of}
 use Rattle.lab_store_tables.specs.WellKept.{same_lab}
 use Rattle.lab_store_tables.specs.Family.{Labs, Persons, Sessions, Forms, Fields, Choices, Records, Versions, Entries, Signatures, Trail}
 use Rattle.lab_store_read.proofs.Texts.{children_query}
-use Rattle.lab_store_read.proofs.Sorted.{equal_ints, equal_texts, and_true, by_one, only_answer, sorted_answer, own_rows}
+use Rattle.lab_store_read.proofs.Sorted.{and_true, by_one, only_answer, sorted_answer, own_rows}
 use Rattle.lab_store_read.proofs.Lists.{alone_text, at_id, untied_in, untied_texts, joined}
 use Rattle.lab_store_tables.specs.Held.{AreRising}
 use Rattle.lab_store_laws.specs.ByRules.{IsByRules}
@@ -46,6 +46,7 @@ use Rattle.lab_move_tables.specs.Shown.{by_lab, code_shown, codes_shown, labs_sh
 use Rattle.lab_move_tables.proofs.OldKeys.{labs_apart, persons_apart, sessions_apart, forms_apart, fields_apart, choices_apart, records_apart, versions_apart, entries_apart, signatures_apart, told_apart, workers, openers, writers, signers, untied_forms, by_text, by_text_number}
 use Rattle.lab_move_tables.proofs.OldTexts.{MeansIn, CodesMeans, LabMeans, PersonMeans, OwnerMeans, SessionMeans, FormMeans, FieldMeans, ChoiceMeans, FiledMeans, VersionMeans, EntryMeans, EntryPlaceMeans, SignatureMeans, SignaturePlaceMeans, ToldMeans, is_given, child_tests, codes_columns, lab_query, person_columns, owner_query, session_columns, form_query, field_columns, choice_columns, filed_columns, version_columns, entry_columns, place_columns, signature_columns, told_columns}
 use Rattle.lab_move_tables.proofs.OldOnes.{IsOldVersion, IsOldEntry, IsOldSignature, all_same, old_versions, old_entries, old_signatures}
+use Rattle.lab_store_tables.proofs.Comparing.{equal_ints, equal_texts}
 
 -- ---- what is known of such a file
 

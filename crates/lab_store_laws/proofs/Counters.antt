@@ -12,8 +12,8 @@ use Rattle.lab_store_laws.proofs.LabLaws.{alike}
 use Rattle.lab_store_laws.proofs.Kept.{AreCounted}
 use Rattle.lab_store_laws.proofs.PutRows.{count_mine, count_other}
 use Rattle.lab_store_laws.proofs.SetRows.{count_set}
-use Rattle.lab_store_laws.proofs.Named.{turned}
 use Rattle.lab_store_laws.proofs.Sets.{with_sessions, unread}
+use Rattle.lab_store_laws.proofs.OneRow.{turned}
 
 -- ---- one counter
 

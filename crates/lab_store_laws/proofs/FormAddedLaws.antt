@@ -27,12 +27,13 @@ use Rattle.lab_store_tables.specs.Changes.{IsFree, form_row_of, put_form, Applie
 use Rattle.lab_store_tables.specs.Held.{AreRising}
 use Rattle.lab_store_tables.specs.Family.{Forms, Fields, Choices}
 use Rattle.lab_store_laws.proofs.LevelLaws.{had_by, other_has, own_has, placed_among}
-use Rattle.lab_store_laws.proofs.LabLaws.{alike, text_is, rows_changed}
+use Rattle.lab_store_laws.proofs.LabLaws.{alike, rows_changed}
 use Rattle.lab_store_laws.proofs.Premises.{own_by_tests, AreWhole, whole_by_test, fits_here}
-use Rattle.lab_store_laws.proofs.OneRow.{turned, text_alike, has_own_key, not_free, had_same, no_rows, got_beside}
+use Rattle.lab_store_laws.proofs.OneRow.{turned, has_own_key, not_free, had_same, no_rows, got_beside}
 use Rattle.lab_store_laws.proofs.PlacedLaws.{behind, untied, none_placed}
 use Rattle.lab_store_laws.proofs.FieldLaws.{fields_in, field_by, AreFielded, fields_in_turn}
 use Rattle.lab_store_laws.proofs.LastForm.{form_total, all_unsorted, all_below_next}
+use Rattle.lab_store_tables.proofs.Comparing.{text_is, text_alike}
 
 -- ---- the order of a code and a number
 

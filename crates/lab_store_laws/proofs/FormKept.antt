@@ -24,16 +24,16 @@ use Rattle.lab_store_tables.specs.Family.{Forms, Fields, Choices}
 use Rattle.lab_store_tables.specs.Changes.{IsFree, InTurn, choice_row_of, AddsChoice, field_row_of, put_field, AddsField, form_row_of, put_form, Applies}
 use Rattle.lab_store_laws.proofs.Bridges.{apart_from_test}
 use Rattle.lab_store_laws.proofs.ColumnsBack.{kind_spelled}
-use Rattle.lab_store_laws.proofs.LabLaws.{alike, text_is}
+use Rattle.lab_store_laws.proofs.LabLaws.{alike}
 use Rattle.lab_store_laws.specs.ByRules.{IsByRules}
 use Rattle.lab_store_laws.proofs.Kept.{is_numbered, number_of, AreAllKept, rows_kept, all_kept, well_kept}
 use Rattle.lab_store_laws.proofs.PutRows.{within_to, new_found}
 use Rattle.lab_store_laws.proofs.NextNumber.{next_number}
 use Rattle.lab_store_laws.proofs.Ids.{own_keys}
-use Rattle.lab_store_laws.proofs.Named.{text_alike}
 use Rattle.lab_store_laws.proofs.Puts.{put_kept}
 use Rattle.lab_store_laws.proofs.Shown.{IsShown, all_shown, all_reversed, fits_here}
 use Rattle.lab_store_laws.proofs.Turns.{turns_leave, turns_keep}
+use Rattle.lab_store_tables.proofs.Comparing.{text_is, text_alike}
 
 -- ---- choices, of a field that has some
 

@@ -21,12 +21,13 @@ use Rattle.lab_store_tables.specs.Held.{AreRising}
 use Rattle.lab_store_tables.specs.Family.{Labs, Persons, Trail}
 use Rattle.lab_store_laws.proofs.ColumnsBack.{action_back}
 use Rattle.lab_store_laws.proofs.SortLaws.{filter-insert_other}
-use Rattle.lab_store_laws.proofs.LabLaws.{alike, text_is, find_set, map_option}
+use Rattle.lab_store_laws.proofs.LabLaws.{alike, find_set, map_option}
 use Rattle.lab_store_laws.proofs.PutLaws.{turned_id, none_has, none_led, find_other, find_alone, filter_alone}
 use Rattle.lab_store_laws.proofs.Parts.{AreLed}
 use Rattle.lab_store_laws.proofs.CodeOrder.{AreByCode}
 use Rattle.lab_store_laws.proofs.Enrolments.{AreUnasked, Enrols, IsBehind, known_stay, others_stay, all_behind}
 use Rattle.lab_store_laws.proofs.StayLaws.{lab_same}
+use Rattle.lab_store_tables.proofs.Comparing.{text_is}
 
 -- a row of the trail of a laboratory that names nobody, under an id
 abbrev pub told_row : ℤ → ℤ → Told → TrailRow

@@ -9,7 +9,7 @@ use Rattle.sqlite_keyed.proofs.KeyedLemmas.{all-insert_by, int_eq_apart}
 use Rattle.sqlite_keyed.proofs.SliceLemmas.{any_is_found}
 use Rattle.lab_store_tables.specs.WellKept.{have_own_ids, have_parents}
 use Rattle.lab_store_laws.proofs.Bridges.{apart_from_test, test_from_apart}
-use Rattle.lab_store_laws.proofs.Named.{turned}
+use Rattle.lab_store_laws.proofs.OneRow.{turned}
 
 -- no row has it
 pub none_has : {X : Type 0} (key : X → ℤ) (rows : List X) (id : ℤ) → has_key key rows id ≡ false → AllByRecursion (λ one. int_eq (key one) id ≡ false) rows

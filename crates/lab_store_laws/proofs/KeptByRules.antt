@@ -2,17 +2,14 @@
 -- A write leaves a database that obeys its rules, so no write has to be shown to keep these.
 use Rattle.std.proofs.Common.{◌≡◌, inl, inr, ℕ, ℤ, pos, ◌<ℤ◌, Bool, true, false, not, ◌&&◌, ◌||◌, ◌==◌, List, [], ◌∷◌, map, Option, Some, None, refl, sym, ap, ap₂, ◌∙◌, subst, arith, int_eq, bytes_eq}
 use Rattle.std.specs.List.{AllByRecursion, list_any}
-use Rattle.std.specs.Ordering.{is_eq, is_ne}
 use Rattle.std.proofs.lemmas.Int.{ints}
 use Rattle.std.proofs.lemmas.Bool.{and_parts, and_from, eq-eqb, eqb-true}
-use Rattle.std.proofs.lemmas.Map.Text.{is_eq-slice_cmp}
 use Rattle.sqlite_value.specs.declared.keys.Collation.TheVariants.{Binary}
-use Rattle.sqlite_value.specs.declared.value.Value.TheVariants.{Int, Text, Blob}
+use Rattle.sqlite_value.specs.declared.value.Value.TheVariants.{Int}
 use Rattle.sqlite_value.specs.Order.{Row, column}
 use Rattle.sqlite_value.specs.Keys.{plain, first_key, joined}
-use Rattle.sqlite_value.proofs.OrderLemmas.{value_cmp-Int, value_cmp-Text, value_cmp-Blob}
 use Rattle.sqlite_trees.specs.Tree.{rowid}
-use Rattle.sqlite_sql.specs.Ops.{binary, is_true, is_null, from_truth}
+use Rattle.sqlite_sql.specs.Ops.{binary, is_true, is_null}
 use Rattle.sqlite_sql.specs.declared.ops.BinaryOp.TheVariants.{Compare}
 use Rattle.sqlite_sql.specs.declared.ops.CompareOp.TheVariants.{Eq}
 use Rattle.sqlite_schema.specs.declared.schema.Constraint.TheVariants.{Unique, ForeignKey}
@@ -23,7 +20,7 @@ use Rattle.sqlite_rules.proofs.ListLemmas.{all_has, all_from, some_from}
 use Rattle.sqlite_keyed.specs.Keyed.{IsKeyedBy}
 use Rattle.sqlite_keyed.specs.Rules.{AreApart, has_parent}
 use Rattle.sqlite_keyed.proofs.ListLemmas.{all_weaker, all_unmap, ascending_weaker, test_from_all}
-use Rattle.sqlite_keyed.proofs.KeyedLemmas.{Less-from_lt, int_eq_apart, same_int}
+use Rattle.sqlite_keyed.proofs.KeyedLemmas.{int_eq_apart, same_int}
 use Rattle.sqlite_keyed.proofs.SliceLemmas.{any_is_found}
 use Rattle.sqlite.specs.Effect.{Database}
 use Rattle.lab_store_tables.specs.Schema as tables
@@ -34,12 +31,10 @@ use Rattle.lab_store_tables.specs.Held.{AreRising, IsTyped}
 use Rattle.lab_store_tables.specs.WellKept.{are_apart, same_lab, same_person, same_token, same_session, same_form, same_field, same_key, same_choice, same_record, same_sample, same_version, same_entry, same_signature, same_meaning, same_told, have_own_ids, are_ids_unique, are_keys_unique, have_parents, are_arrows_whole}
 use Rattle.lab_store_tables.specs.Family.{Labs, Persons, Sessions, Forms, Fields, Choices, Records, Versions, Entries, Signatures, Trail}
 use Rattle.lab_store_laws.proofs.Bridges.{test_from_apart}
+use Rattle.lab_store_tables.proofs.Comparing.{equal_texts, equal_blobs, ids_differ, equal_ints}
+use Rattle.lab_store_laws.proofs.LabLaws.{alike}
 
 -- ---- values that are equal
-
-truth_is : (b : Bool) → is_true (from_truth (Some b)) ≡ b
-truth_is true = refl
-truth_is false = refl
 
 and_true : (b : Bool) → (b && true) ≡ b
 and_true true = refl
@@ -54,30 +49,11 @@ bool_same true b f g = sym (f refl)
 bool_same false true f g = g refl
 bool_same false false f g = refl
 
-equal_ids : (a b : ℤ) → is_true (binary (Compare Eq Binary) (Int a) (Int b)) ≡ int_eq a b
-unfolding binary
-equal_ids a b = truth_is _ ∙ ap is_eq (value_cmp-Int a b)
-
-alike : (a b : ℤ) → a ≡ b → int_eq a b ≡ true
-alike a b e = grind (arith, ints)
-
 same_number : (a b : ℕ) → int_eq (pos a) (pos b) ≡ (a == b)
 same_number a b = bool_same (int_eq (pos a) (pos b)) (a == b) (λ e. eq-eqb a b (ap natural (same_int (pos a) (pos b) e))) (λ e. alike (pos a) (pos b) (ap pos (eqb-true a b e)))
 
 equal_numbers : (a b : ℕ) → is_true (binary (Compare Eq Binary) (Int (pos a)) (Int (pos b))) ≡ (a == b)
-equal_numbers a b = equal_ids (pos a) (pos b) ∙ same_number a b
-
-equal_texts : (s t : List ℕ) → is_true (binary (Compare Eq Binary) (Text s) (Text t)) ≡ bytes_eq s t
-unfolding binary
-equal_texts s t = truth_is _ ∙ ap is_eq (value_cmp-Text s t) ∙ is_eq-slice_cmp s t
-
-equal_blobs : (s t : List ℕ) → is_true (binary (Compare Eq Binary) (Blob s) (Blob t)) ≡ bytes_eq s t
-unfolding binary
-equal_blobs s t = truth_is _ ∙ ap is_eq (value_cmp-Blob s t) ∙ is_eq-slice_cmp s t
-
-ids_differ : (a b : ℤ) → a <ℤ b → differ (Int a) (Int b) ≡ true
-unfolding binary
-ids_differ a b low = truth_is _ ∙ ap is_ne (value_cmp-Int a b ∙ Less-from_lt a b low)
+equal_numbers a b = equal_ints (pos a) (pos b) ∙ same_number a b
 
 not_true : (b : Bool) → not b ≡ true → b ≡ false
 not_true true h = absurd cc
@@ -144,7 +120,7 @@ module _ {P : Type 0} (id : P → ℤ) (to_row : P → Row) (keyed : (x : P) →
   given_parent to h =
       sym (any_is_found (λ p. int_eq (id p) to) parents)
       ∙ sym (any_same (λ x. is_at to (to_row x)) (λ x. int_eq (id x) to)
-      (λ x. and_true _ ∙ ap (λ v. is_true (binary (Compare Eq Binary) v (Int to))) (keyed x) ∙ equal_ids (id x) to) parents)
+      (λ x. and_true _ ∙ ap (λ v. is_true (binary (Compare Eq Binary) v (Int to))) (keyed x) ∙ equal_ints (id x) to) parents)
       ∙ sym (any_map (is_at to) to_row parents) ∙ ap (list_any (is_at to)) (sym stored) ∙ h
 
   optional_parent : (to : Option ℤ)
@@ -188,59 +164,59 @@ module _ (db : Database) (typed : IsTyped db) (obeys : Obeys lab_schema db.trees
 
   same_person_agrees : (a b : PersonRow) → agree plain (2 ∷ 3 ∷ []) (person_row a) (2 ∷ 3 ∷ []) (person_row b) ≡ same_person a b
   unfolding first_key
-  same_person_agrees a b = ap₂ ◌&&◌ (equal_ids a.lab b.lab) (and_true _ ∙ equal_texts a.code b.code)
+  same_person_agrees a b = ap₂ ◌&&◌ (equal_ints a.lab b.lab) (and_true _ ∙ equal_texts a.code b.code)
 
   same_token_agrees : (a b : SessionRow) → agree plain (2 ∷ 5 ∷ []) (session_row a) (2 ∷ 5 ∷ []) (session_row b) ≡ same_token a b
   unfolding first_key
-  same_token_agrees a b = ap₂ ◌&&◌ (equal_ids a.lab b.lab) (and_true _ ∙ equal_blobs a.token b.token)
+  same_token_agrees a b = ap₂ ◌&&◌ (equal_ints a.lab b.lab) (and_true _ ∙ equal_blobs a.token b.token)
 
   same_session_agrees : (a b : SessionRow) → agree plain (2 ∷ 4 ∷ []) (session_row a) (2 ∷ 4 ∷ []) (session_row b) ≡ same_session a b
   unfolding first_key
-  same_session_agrees a b = ap₂ ◌&&◌ (equal_ids a.lab b.lab) (and_true _ ∙ equal_numbers a.number b.number)
+  same_session_agrees a b = ap₂ ◌&&◌ (equal_ints a.lab b.lab) (and_true _ ∙ equal_numbers a.number b.number)
 
   same_form_agrees : (a b : FormRow) → agree plain (2 ∷ 3 ∷ 4 ∷ []) (form_row a) (2 ∷ 3 ∷ 4 ∷ []) (form_row b) ≡ same_form a b
   unfolding first_key
-  same_form_agrees a b = ap₂ ◌&&◌ (equal_ids a.lab b.lab) (ap₂ ◌&&◌ (equal_texts a.code b.code) (and_true _ ∙ equal_numbers a.version b.version)) ∙ and_again (int_eq a.lab b.lab) (bytes_eq a.code b.code) (a.version == b.version)
+  same_form_agrees a b = ap₂ ◌&&◌ (equal_ints a.lab b.lab) (ap₂ ◌&&◌ (equal_texts a.code b.code) (and_true _ ∙ equal_numbers a.version b.version)) ∙ and_again (int_eq a.lab b.lab) (bytes_eq a.code b.code) (a.version == b.version)
 
   same_field_agrees : (a b : FieldRow) → agree plain (2 ∷ 3 ∷ []) (field_row a) (2 ∷ 3 ∷ []) (field_row b) ≡ same_field a b
   unfolding first_key
-  same_field_agrees a b = ap₂ ◌&&◌ (equal_ids a.form b.form) (and_true _ ∙ equal_numbers a.place b.place)
+  same_field_agrees a b = ap₂ ◌&&◌ (equal_ints a.form b.form) (and_true _ ∙ equal_numbers a.place b.place)
 
   same_key_agrees : (a b : FieldRow) → agree plain (2 ∷ 4 ∷ []) (field_row a) (2 ∷ 4 ∷ []) (field_row b) ≡ same_key a b
   unfolding first_key
-  same_key_agrees a b = ap₂ ◌&&◌ (equal_ids a.form b.form) (and_true _ ∙ equal_texts a.key b.key)
+  same_key_agrees a b = ap₂ ◌&&◌ (equal_ints a.form b.form) (and_true _ ∙ equal_texts a.key b.key)
 
   same_choice_agrees : (a b : ChoiceRow) → agree plain (2 ∷ 3 ∷ []) (choice_row a) (2 ∷ 3 ∷ []) (choice_row b) ≡ same_choice a b
   unfolding first_key
-  same_choice_agrees a b = ap₂ ◌&&◌ (equal_ids a.field b.field) (and_true _ ∙ equal_numbers a.place b.place)
+  same_choice_agrees a b = ap₂ ◌&&◌ (equal_ints a.field b.field) (and_true _ ∙ equal_numbers a.place b.place)
 
   same_record_agrees : (a b : RecordRow) → agree plain (2 ∷ 3 ∷ []) (record_row a) (2 ∷ 3 ∷ []) (record_row b) ≡ same_record a b
   unfolding first_key
-  same_record_agrees a b = ap₂ ◌&&◌ (equal_ids a.lab b.lab) (and_true _ ∙ equal_numbers a.number b.number)
+  same_record_agrees a b = ap₂ ◌&&◌ (equal_ints a.lab b.lab) (and_true _ ∙ equal_numbers a.number b.number)
 
   same_sample_agrees : (a b : RecordRow) → agree plain (2 ∷ 5 ∷ 6 ∷ []) (record_row a) (2 ∷ 5 ∷ 6 ∷ []) (record_row b) ≡ same_sample a b
   unfolding first_key
-  same_sample_agrees a b = ap₂ ◌&&◌ (equal_ids a.lab b.lab) (ap₂ ◌&&◌ (equal_texts a.form_code b.form_code) (and_true _ ∙ equal_texts a.sample b.sample)) ∙ and_again (int_eq a.lab b.lab) (bytes_eq a.form_code b.form_code) (bytes_eq a.sample b.sample)
+  same_sample_agrees a b = ap₂ ◌&&◌ (equal_ints a.lab b.lab) (ap₂ ◌&&◌ (equal_texts a.form_code b.form_code) (and_true _ ∙ equal_texts a.sample b.sample)) ∙ and_again (int_eq a.lab b.lab) (bytes_eq a.form_code b.form_code) (bytes_eq a.sample b.sample)
 
   same_version_agrees : (a b : VersionRow) → agree plain (2 ∷ 3 ∷ []) (version_row a) (2 ∷ 3 ∷ []) (version_row b) ≡ same_version a b
   unfolding first_key
-  same_version_agrees a b = ap₂ ◌&&◌ (equal_ids a.kept b.kept) (and_true _ ∙ equal_numbers a.number b.number)
+  same_version_agrees a b = ap₂ ◌&&◌ (equal_ints a.kept b.kept) (and_true _ ∙ equal_numbers a.number b.number)
 
   same_entry_agrees : (a b : EntryRow) → agree plain (2 ∷ 3 ∷ []) (entry_row a) (2 ∷ 3 ∷ []) (entry_row b) ≡ same_entry a b
   unfolding first_key
-  same_entry_agrees a b = ap₂ ◌&&◌ (equal_ids a.version b.version) (and_true _ ∙ equal_numbers a.place b.place)
+  same_entry_agrees a b = ap₂ ◌&&◌ (equal_ints a.version b.version) (and_true _ ∙ equal_numbers a.place b.place)
 
   same_signature_agrees : (a b : SignatureRow) → agree plain (2 ∷ 3 ∷ []) (signature_row a) (2 ∷ 3 ∷ []) (signature_row b) ≡ same_signature a b
   unfolding first_key
-  same_signature_agrees a b = ap₂ ◌&&◌ (equal_ids a.version b.version) (and_true _ ∙ equal_numbers a.place b.place)
+  same_signature_agrees a b = ap₂ ◌&&◌ (equal_ints a.version b.version) (and_true _ ∙ equal_numbers a.place b.place)
 
   same_meaning_agrees : (a b : SignatureRow) → agree plain (2 ∷ 6 ∷ []) (signature_row a) (2 ∷ 6 ∷ []) (signature_row b) ≡ same_meaning a b
   unfolding first_key
-  same_meaning_agrees a b = ap₂ ◌&&◌ (equal_ids a.version b.version) (and_true _ ∙ equal_texts a.meaning b.meaning)
+  same_meaning_agrees a b = ap₂ ◌&&◌ (equal_ints a.version b.version) (and_true _ ∙ equal_texts a.meaning b.meaning)
 
   same_told_agrees : (a b : TrailRow) → agree plain (2 ∷ 3 ∷ []) (trail_row a) (2 ∷ 3 ∷ []) (trail_row b) ≡ same_told a b
   unfolding first_key
-  same_told_agrees a b = ap₂ ◌&&◌ (equal_ids a.lab b.lab) (and_true _ ∙ equal_numbers a.number b.number)
+  same_told_agrees a b = ap₂ ◌&&◌ (equal_ints a.lab b.lab) (and_true _ ∙ equal_numbers a.number b.number)
 
   same_lab_unique : are_apart same_lab t.labs ≡ true
   same_lab_unique = unique_by_rule lab_id lab_row (λ _. refl) same_lab (2 ∷ []) same_lab_agrees t.labs (typed.rising.at Labs)

@@ -1,7 +1,6 @@
 -- A change of what one laboratory's row shows is a change of that laboratory, and of no other.
 use Rattle.std.proofs.Common.{◌≡◌, ◌≢◌, inl, inr, ℕ, ℤ, Bool, true, false, cond, List, [], ◌∷◌, find, Option, Some, None, option_map, refl, sym, ap, subst, ◌∙◌, int_eq, bytes_eq, arith}
 use Rattle.std.proofs.lemmas.Int.{ints}
-use Rattle.std.proofs.lemmas.Slice.Eq.{bytes_eq-Decides}
 use Rattle.sqlite_rules.specs.Lists.{Has}
 use Rattle.sqlite_rules.proofs.ListLemmas.{all_has, has_found}
 use Rattle.sqlite_keyed.specs.Lists.{update_where}
@@ -17,12 +16,10 @@ use Rattle.lab_store_tables.specs.Meaning.{lab_in, has_code, meaning}
 use Rattle.lab_store_tables.specs.WellKept.{have_own_ids}
 use Rattle.lab_store_tables.specs.Changes.{in_lab, Applies}
 use Rattle.lab_store_laws.proofs.Bridges.{apart_from_test}
+use Rattle.lab_store_tables.proofs.Comparing.{text_is}
 
 pub alike : (a b : ℤ) → a ≡ b → int_eq a b ≡ true
 alike a b e = grind (arith, ints)
-
-pub text_is : (s t : List ℕ) → bytes_eq s t ≡ true → s ≡ t
-text_is s t e = (bytes_eq-Decides s t).0 e
 
 -- two rows of one id are one
 pub same_id : {X : Type 0} (id : X → ℤ) (xs : List X) (a b : X) → AreApart (λ one other. int_eq (id one) (id other)) xs → Has xs a → Has xs b → id a ≡ id b → a ≡ b

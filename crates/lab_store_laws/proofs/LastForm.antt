@@ -16,7 +16,7 @@ use Rattle.lab_records_kept.specs.declared.records.FormVersion.{FormVersion}
 use Rattle.lab_records_kept.specs.Lookups.{is_version_of, last_form, next_form_version}
 use Rattle.lab_store_tables.specs.Rows.{FormRow, Tables}
 use Rattle.lab_store_tables.specs.Meaning.{form_in, by_form}
-use Rattle.lab_store_laws.proofs.LabLaws.{text_is}
+use Rattle.lab_store_tables.proofs.Comparing.{text_is}
 
 -- ---- rows that are sorted rise
 

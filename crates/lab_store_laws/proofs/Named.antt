@@ -2,12 +2,11 @@
 use Rattle.std.proofs.Common.{◌≡◌, inl, inr, ℕ, ℤ, Bool, true, false, ◌&&◌, ◌==◌, cond, List, [], ◌∷◌, find, Option, Some, None, option_map, option_and_then, unwrap_or, refl, sym, ap, ap₂, ◌∙◌, int_eq, bytes_eq}
 use Rattle.std.specs.Option.{option_map_or}
 use Rattle.std.proofs.lemmas.Bool.{and_parts}
-use Rattle.std.proofs.lemmas.Slice.Eq.{bytes_eq-Decides}
 use Rattle.sqlite_rules.specs.Lists.{Has}
 use Rattle.sqlite_rules.proofs.ListLemmas.{all_has, has_found}
 use Rattle.sqlite_keyed.specs.Keyed.{get_by}
 use Rattle.sqlite_keyed.specs.Rules.{AreApart}
-use Rattle.sqlite_keyed.proofs.KeyedLemmas.{same_int, int_eq_apart}
+use Rattle.sqlite_keyed.proofs.KeyedLemmas.{same_int}
 use Rattle.lab_store_tables.specs.Rows.{PersonRow, FormRow, RecordRow, VersionRow, Tables, person_id, form_id, record_id, version_id}
 use Rattle.lab_store_tables.specs.WellKept.{have_own_ids, lab_of_person, lab_of_form, lab_of_record, lab_of_version, is_same, is_of_lab}
 use Rattle.lab_store_tables.specs.Changes.{is_person, person_named, IsNamedIfAny, is_form_row, form_named, is_record_row, record_named, is_version_row, version_named}
@@ -16,14 +15,8 @@ use Rattle.lab_store_laws.proofs.LabLaws.{alike, same_id}
 
 -- ---- ids and texts
 
-pub turned : (a b : ℤ) → int_eq a b ≡ false → int_eq b a ≡ false
-turned a b h = int_eq_apart b a (λ same. let yes : int_eq a b ≡ true = alike a b (sym same) in cc)
-
 pub turned_too : (a b : ℤ) → int_eq a b ≡ true → int_eq b a ≡ true
 turned_too a b h = alike b a (sym (same_int a b h))
-
-pub text_alike : (s t : List ℕ) → s ≡ t → bytes_eq s t ≡ true
-text_alike s t same = (bytes_eq-Decides s t).1 same
 
 -- a row is found by its own id
 pub own_found : {X : Type 0} (id : X → ℤ) (rows : List X) (one : X) → AreApart (λ a b. int_eq (id a) (id b)) rows → Has rows one

@@ -2,7 +2,6 @@
 use Rattle.std.proofs.Common.{◌≡◌, ◌≤◌, ◌<◌, ℕ, ◌+◌, ℤ, Bool, true, false, cond, List, [], ◌∷◌, ◌++◌, filter, length, Some, refl, sym, ap, subst, int_eq, int_cmp, is_gt, is_eq, is_some, Ordering, Less, Equal, Greater, arith}
 use Rattle.std.specs.Ordering.{nat_cmp, match_ordering}
 use Rattle.std.specs.List.{AllByRecursion}
-use Rattle.std.specs.Cmp.{nat_cmp_is}
 use Rattle.sqlite_keyed.specs.Keyed.{IsKeyedBy, get_by, has_key, insert_by}
 use Rattle.sqlite_keyed.specs.Rules.{has_parent}
 use Rattle.sqlite_keyed.proofs.ListLemmas.{all_from_test, all_weaker, filter_none}
@@ -11,13 +10,8 @@ use Rattle.lab_store_tables.specs.WellKept.{have_parents}
 use Rattle.lab_store_laws.proofs.SortLaws.{total_on, fresh_filtered, filter-insert_mine}
 use Rattle.lab_store_laws.proofs.LevelLaws.{had_by, other_has, own_has_last}
 use Rattle.lab_store_laws.proofs.LabLaws.{alike}
-use Rattle.lab_store_laws.proofs.OrderLaws.{never}
-
-behind : (a b : ℕ) → a < b → is_gt (nat_cmp b a) ≡ true
-behind a b h = ap is_gt (sym (nat_cmp_is b a Greater h))
-
-untied : (a b : ℕ) → a < b → is_eq (nat_cmp a b) ≡ false
-untied a b h = ap is_eq (sym (nat_cmp_is a b Less h))
+use Rattle.lab_store_laws.proofs.OneRow.{never}
+use Rattle.lab_store_laws.proofs.PlacedLaws.{behind, untied}
 
 -- ---- behind all that its parent has
 

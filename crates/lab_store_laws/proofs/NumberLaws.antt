@@ -1,35 +1,25 @@
 -- A row that is put in under the next number: its parent has it behind the others, and no other parent sees it. Of each
 -- table whose rows are numbered beside those of one parent: sessions, records, versions, entries, signatures, fields,
 -- choices and the trail.
-use Rattle.std.proofs.Common.{◌≡◌, ◌≤◌, ◌<◌, ℕ, ◌+◌, ℤ, Bool, true, false, ◌&&◌, cond, List, [], ◌∷◌, ◌++◌, filter, length, refl, ap, subst, int_eq, is_gt, is_eq, Ordering, Less, Greater, arith, sym}
+use Rattle.std.proofs.Common.{◌≡◌, ◌≤◌, ◌<◌, ℕ, ◌+◌, ℤ, Bool, true, false, ◌&&◌, cond, List, [], ◌∷◌, ◌++◌, filter, length, refl, ap, subst, int_eq, is_gt, is_eq, Ordering, arith, sym}
 use Rattle.std.specs.Prelude.{nat_le}
 use Rattle.std.specs.Ordering.{nat_cmp}
 use Rattle.std.specs.List.{AllByRecursion}
 use Rattle.std.proofs.lemmas.Int.{ints}
-use Rattle.std.specs.Cmp.{nat_cmp_is}
 use Rattle.std.proofs.lemmas.Bool.{and_parts, leb-true}
 use Rattle.sqlite_keyed.specs.Keyed.{IsKeyedBy, has_key, insert_by}
 use Rattle.sqlite_keyed.specs.Lists.{insert_sorted, sort_by}
 use Rattle.sqlite_keyed.proofs.ListLemmas.{all_from_test, all_weaker}
-use Rattle.sqlite_keyed.proofs.KeyedLemmas.{same_int, int_eq_apart}
+use Rattle.sqlite_keyed.proofs.KeyedLemmas.{same_int}
 use Rattle.lab_store_tables.specs.WellKept.{are_numbered_beside}
 use Rattle.lab_store_laws.proofs.SortLaws.{total_on}
 use Rattle.lab_store_laws.proofs.LevelLaws.{had_by, other_has, own_has_last}
+use Rattle.lab_store_laws.proofs.PlacedLaws.{behind, untied}
+use Rattle.lab_store_laws.proofs.OneRow.{turned}
+use Rattle.lab_store_laws.proofs.LabLaws.{alike}
 
 le_is : (a b : ℕ) → nat_le a b ≡ true → a ≤ b
 le_is a b h = leb-true a b h
-
-behind : (a b : ℕ) → a < b → is_gt (nat_cmp b a) ≡ true
-behind a b h = ap is_gt (sym (nat_cmp_is b a Greater h))
-
-untied : (a b : ℕ) → a < b → is_eq (nat_cmp a b) ≡ false
-untied a b h = ap is_eq (sym (nat_cmp_is a b Less h))
-
-alike : (a b : ℤ) → a ≡ b → int_eq a b ≡ true
-alike a b e = grind (arith, ints)
-
-turned : (a b : ℤ) → int_eq a b ≡ false → int_eq b a ≡ false
-turned a b h = int_eq_apart b a (λ same. let yes : int_eq a b ≡ true = alike a b (sym same) in cc)
 
 -- the rows that a test admits, with what holds of them all
 pub each_admitted : {X : Type 0} (P Q : X → Type 0) (mine : X → Bool) → ((x : X) → mine x ≡ true → P x → Q x) → (xs : List X) → AllByRecursion P xs → AllByRecursion Q (filter mine xs)

@@ -3,7 +3,6 @@
 use Rattle.std.proofs.Common.{◌≡◌, ℕ, ℤ, Bool, true, false, ◌&&◌, cond, List, [], ◌∷◌, map, filter, slice_get, Some, option_map, is_some, inl, inr, refl, sym, ap, ap₂, subst, ◌∙◌, int_eq, bytes_eq, is_gt, Ordering}
 use Rattle.std.specs.List.{AllByRecursion}
 use Rattle.std.proofs.lemmas.Bool.{and_from}
-use Rattle.std.proofs.lemmas.Slice.Eq.{bytes_eq-Decides}
 use Rattle.sqlite_trees.specs.Tree.{IsAscending}
 use Rattle.sqlite_rules.specs.Lists.{Has}
 use Rattle.sqlite_rules.proofs.ListLemmas.{all_has, all_from, has_filtered}
@@ -15,7 +14,8 @@ use Rattle.sqlite_keyed.proofs.KeyedLemmas.{filter-insert_by, same_int, int_eq_a
 use Rattle.sqlite_keyed.proofs.SortLemmas.{sort_by-map}
 use Rattle.lab_store_laws.proofs.SortLaws.{all_sorted}
 use Rattle.lab_store_laws.proofs.LevelLaws.{had_by}
-use Rattle.lab_store_laws.proofs.LabLaws.{alike, text_is, same_id}
+use Rattle.lab_store_laws.proofs.LabLaws.{alike, same_id}
+use Rattle.lab_store_tables.proofs.Comparing.{text_is, text_alike}
 
 -- ---- tests
 
@@ -30,9 +30,6 @@ same_answer false false f g = refl
 
 pub turned : (a b : ℤ) → int_eq a b ≡ false → int_eq b a ≡ false
 turned a b h = int_eq_apart b a (λ same. let yes : int_eq a b ≡ true = alike a b (sym same) in cc)
-
-pub text_alike : (s t : List ℕ) → s ≡ t → bytes_eq s t ≡ true
-text_alike s t e = (bytes_eq-Decides s t).1 e
 
 -- ---- a row by its key
 

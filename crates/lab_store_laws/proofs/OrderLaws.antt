@@ -13,10 +13,7 @@ use Rattle.sqlite_keyed.specs.Lists.{insert_sorted, sort_by}
 use Rattle.sqlite_keyed.proofs.ListLemmas.{all_weaker}
 use Rattle.lab_store_laws.proofs.SortLaws.{all_sorted}
 use Rattle.lab_store_laws.proofs.NumberLaws.{each_admitted}
-
-pub never : (b : Bool) → (b ≡ true → ⊥) → b ≡ false
-never true h = absurd (h refl)
-never false h = refl
+use Rattle.lab_store_laws.proofs.OneRow.{never}
 
 -- ---- numbers
 

@@ -27,10 +27,11 @@ use Rattle.lab_store_laws.proofs.SortLaws.{all_sorted}
 use Rattle.lab_store_laws.proofs.LevelLaws.{other_has, own_has, placed_among}
 use Rattle.lab_store_laws.proofs.NumberLaws.{each_admitted}
 use Rattle.lab_store_laws.proofs.FindLaws.{person_is_found}
-use Rattle.lab_store_laws.proofs.LabLaws.{alike, text_is, rows_changed}
+use Rattle.lab_store_laws.proofs.LabLaws.{alike, rows_changed}
 use Rattle.lab_store_laws.proofs.Premises.{AreOwn, own_by_tests, AreWhole, whole_by_test, fits_here}
-use Rattle.lab_store_laws.proofs.OneRow.{never, turned, text_alike, got_beside}
+use Rattle.lab_store_laws.proofs.OneRow.{never, turned, got_beside}
 use Rattle.lab_store_laws.proofs.CodeLaws.{persons_seen, person_back, lab_alike}
+use Rattle.lab_store_tables.proofs.Comparing.{text_is, text_alike}
 
 code_total : IsTotalOrder by_code
 code_total = on_total (λ (one : PersonRow). one.code) nat_list_cmp_total

@@ -17,10 +17,11 @@ use Rattle.lab_store_tables.specs.Rows.{LabRow, PersonRow, Tables, person_id}
 use Rattle.lab_store_tables.specs.Meaning.{lab_in, has_code, meaning, code_of, person_in, persons_of}
 use Rattle.lab_store_tables.specs.WellKept.{AreWellKept}
 use Rattle.lab_store_tables.specs.Changes.{IsNamedIfAny, is_person, asker_of, person_row_of, set_person, Applies}
-use Rattle.lab_store_laws.proofs.LabLaws.{text_is, rows_changed}
+use Rattle.lab_store_laws.proofs.LabLaws.{rows_changed}
 use Rattle.lab_store_laws.proofs.Premises.{AreOwn, own_by_tests, AreWhole, whole_by_test}
 use Rattle.lab_store_laws.proofs.OneRow.{told_by_text, set_first, kept, read_kept, row_is_set}
 use Rattle.lab_store_laws.proofs.CodeLaws.{persons_seen, person_back, lab_alike}
+use Rattle.lab_store_tables.proofs.Comparing.{text_is}
 
 with_person_is : (person : Person) (persons : List Person)
     → with_person person persons ≡ set_first (λ (one : Person). bytes_eq one.code person.code) person persons

@@ -10,8 +10,8 @@ use Rattle.lab_store_tables.specs.Changes.{IsFree}
 use Rattle.lab_store_laws.proofs.LabLaws.{alike}
 use Rattle.lab_store_laws.proofs.Kept.{is_beside, number_of, AreNumberedIn, IsRowKept, AreRowsKept}
 use Rattle.lab_store_laws.proofs.PutRows.{found_put, numbered_put}
-use Rattle.lab_store_laws.proofs.Named.{text_alike}
 use Rattle.lab_store_laws.proofs.Leads.{Leads, shown_still, kept_with}
+use Rattle.lab_store_tables.proofs.Comparing.{text_alike}
 
 leads_put : (k : Name) (rows : List (RowOf k)) (row : RowOf k) → IsFree (id_of k) rows (id_of k row) → Leads k rows (insert_by (id_of k) rows row)
 leads_put Persons rows row free =

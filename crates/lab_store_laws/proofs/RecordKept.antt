@@ -22,11 +22,12 @@ use Rattle.lab_store_laws.proofs.Kept.{is_beside, AreRowsKept, AreCounted, AreCu
 use Rattle.lab_store_laws.proofs.PutRows.{count_mine, count_other, new_found}
 use Rattle.lab_store_laws.proofs.FreeIds.{none_has, none_leads}
 use Rattle.lab_store_laws.proofs.Ids.{own_ids, versions_lead}
-use Rattle.lab_store_laws.proofs.Named.{turned, of_same, named_lab, form_lab, form_code}
+use Rattle.lab_store_laws.proofs.Named.{of_same, named_lab, form_lab, form_code}
 use Rattle.lab_store_laws.proofs.Puts.{put_kept}
 use Rattle.lab_store_laws.proofs.Sets.{lab_set}
 use Rattle.lab_store_laws.proofs.Counters.{records_counted}
 use Rattle.lab_store_laws.proofs.Shown.{as_many, fits_here}
+use Rattle.lab_store_laws.proofs.OneRow.{turned}
 
 -- ---- one step, of what has one item
 

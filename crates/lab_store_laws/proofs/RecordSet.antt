@@ -23,8 +23,9 @@ use Rattle.lab_store_laws.proofs.SortLaws.{all_sorted}
 use Rattle.lab_store_laws.proofs.LevelLaws.{had_by}
 use Rattle.lab_store_laws.proofs.LabLaws.{alike}
 use Rattle.lab_store_laws.proofs.KeptParts.{KeptParts}
-use Rattle.lab_store_laws.proofs.OrderLaws.{never, unequal, has_sorted}
+use Rattle.lab_store_laws.proofs.OrderLaws.{unequal, has_sorted}
 use Rattle.lab_store_laws.proofs.RowSet.{rising_sorted, other_parent, own_parent}
+use Rattle.lab_store_laws.proofs.OneRow.{never}
 
 -- ---- the record of a number
 

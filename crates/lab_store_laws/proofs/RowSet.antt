@@ -14,7 +14,8 @@ use Rattle.sqlite_keyed.proofs.KeyedLemmas.{same_int}
 use Rattle.lab_store_laws.proofs.SortLaws.{all_sorted}
 use Rattle.lab_store_laws.proofs.LevelLaws.{had_by}
 use Rattle.lab_store_laws.proofs.LabLaws.{alike, same_id}
-use Rattle.lab_store_laws.proofs.OrderLaws.{never, pairs_admitted, up_sorted}
+use Rattle.lab_store_laws.proofs.OrderLaws.{pairs_admitted, up_sorted}
+use Rattle.lab_store_laws.proofs.OneRow.{never}
 
 pub map_alike : {X Y : Type 0} (f g : X → Y) (rows : List X) → AllByRecursion (λ one. f one ≡ g one) rows → map f rows ≡ map g rows
 map_alike f g [] all = refl

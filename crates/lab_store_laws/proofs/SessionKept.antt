@@ -17,15 +17,16 @@ use Rattle.lab_store_tables.specs.WellKept.{have_own_ids, same_token, lab_of_per
 use Rattle.lab_store_tables.specs.Family.{Sessions}
 use Rattle.lab_store_tables.specs.Changes.{IsFree, person_named, is_session, session_row_of, in_lab, put_session, set_session, is_to_close, close_sessions, Applies}
 use Rattle.lab_store_laws.proofs.Bridges.{apart_from_test}
-use Rattle.lab_store_laws.proofs.LabLaws.{alike, text_is, same_id}
+use Rattle.lab_store_laws.proofs.LabLaws.{alike, same_id}
 use Rattle.lab_store_laws.specs.ByRules.{IsByRules}
 use Rattle.lab_store_laws.proofs.Kept.{AreAllKept, all_kept, well_kept}
 use Rattle.lab_store_laws.proofs.Ids.{own_ids, own_keys}
-use Rattle.lab_store_laws.proofs.Named.{text_alike, same_key, the_row, of_same, named_lab}
+use Rattle.lab_store_laws.proofs.Named.{same_key, the_row, of_same, named_lab}
 use Rattle.lab_store_laws.proofs.Puts.{put_kept}
 use Rattle.lab_store_laws.proofs.Sets.{lab_set, with_sessions, sessions_set}
 use Rattle.lab_store_laws.proofs.Counters.{sessions_counted, sessions_set_counted}
 use Rattle.lab_store_laws.proofs.Shown.{as_many, IsShown, all_shown, session_is_found, matched, fits_here}
+use Rattle.lab_store_tables.proofs.Comparing.{text_is, text_alike}
 
 -- ---- a session more
 

@@ -18,10 +18,11 @@ use Rattle.lab_store_tables.specs.Meaning.{lab_in, has_code, meaning, session_in
 use Rattle.lab_store_tables.specs.WellKept.{AreWellKept}
 use Rattle.lab_store_tables.specs.Changes.{person_named, is_session, session_row_of, set_session, Applies}
 use Rattle.lab_store_laws.proofs.SortLaws.{all_sorted}
-use Rattle.lab_store_laws.proofs.LabLaws.{alike, text_is, rows_changed}
+use Rattle.lab_store_laws.proofs.LabLaws.{alike, rows_changed}
 use Rattle.lab_store_laws.proofs.TrailLaws.{code_named}
 use Rattle.lab_store_laws.proofs.Premises.{AreOwn, own_by_tests, fits_here}
 use Rattle.lab_store_laws.proofs.OneRow.{is_top, told_by_text, set_first, row_is_set}
+use Rattle.lab_store_tables.proofs.Comparing.{text_is}
 
 with_session_is : (session : Session) (sessions : List Session)
     → with_session session sessions ≡ set_first (λ (one : Session). bytes_eq one.token session.token) session sessions

@@ -21,7 +21,8 @@ use Rattle.lab_store_tables.specs.Family.{Trail}
 use Rattle.lab_store_laws.proofs.Bridges.{apart_from_test}
 use Rattle.lab_store_laws.proofs.ColumnsBack.{action_back}
 use Rattle.lab_store_laws.proofs.NumberLaws.{length_sorted, numbered_last}
-use Rattle.lab_store_laws.proofs.LabLaws.{alike, text_is, same_id, rows_counted}
+use Rattle.lab_store_laws.proofs.LabLaws.{alike, same_id, rows_counted}
+use Rattle.lab_store_tables.proofs.Comparing.{text_is}
 
 -- ---- ids of their own, table by table
 

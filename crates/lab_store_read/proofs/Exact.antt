@@ -13,9 +13,10 @@ use Rattle.lab_store_tables.specs.Ready.{IsKept}
 use Rattle.lab_store_tables.specs.Family.{Persons}
 use Rattle.std.specs.Ordering.{int_eq}
 use Rattle.sqlite_keyed.proofs.RuleLemmas.{at_most_one}
-use Rattle.lab_store_read.proofs.Sorted.{equal_ints, and_true, only_answer}
+use Rattle.lab_store_read.proofs.Sorted.{and_true, only_answer}
 use Rattle.lab_store_read.specs.Shown.{codes_shown}
 use Rattle.lab_store_read.proofs.Texts.{code_text, code_query, code_means}
+use Rattle.lab_store_tables.proofs.Comparing.{equal_ints}
 
 pub codes_read : (old new : State) (id : ℤ) (rows : List Row) → IsKept old.now → Shown code_text (Int id ∷ []) old new rows → rows ≡ codes_shown (tables_in old.now.trees) id
 codes_read old new id rows kept h =

@@ -5,7 +5,6 @@ use Rattle.std.proofs.lemmas.Bool.{and_parts, and_from, eqb-true, eq-eqb}
 use Rattle.std.proofs.lemmas.Int.{ints}
 use Rattle.std.specs.Ordering.{is_eq, nat_cmp}
 use Rattle.std.proofs.lemmas.Bool.Decides.{nat_tests}
-use Rattle.std.proofs.lemmas.Slice.Eq.{bytes_eq-Decides}
 use Rattle.std.proofs.lemmas.List.Elements.{filter-append}
 use Rattle.sqlite_trees.specs.Tree.{IsAscending}
 use Rattle.sqlite_keyed.specs.Keyed.{IsKeyedBy, get_by, has_key}
@@ -16,6 +15,7 @@ use Rattle.sqlite_keyed.proofs.KeyedLemmas.{same_int}
 use Rattle.sqlite_keyed.proofs.RuleLemmas.{at_most_one}
 use Rattle.std.specs.Cmp.Lexicographic.{slice_cmp}
 use Rattle.std.proofs.lemmas.Map.Text.{is_eq-slice_cmp}
+use Rattle.lab_store_tables.proofs.Comparing.{text_alike, text_is}
 
 pub passes_filter : {X : Type 0} (p : X → Bool) (xs : List X) → AllByRecursion (λ x. p x ≡ true) (filter p xs)
 passes_filter p [] = tt
@@ -94,12 +94,6 @@ alone_if {X} clash p both xs apart = go (filter p xs) (ascending-filter _ p xs a
     go [] above all = omega arith
     go (a ∷ []) above all = omega arith
     go (a ∷ b ∷ more) above all = absurd (let yes = both a b all.0 all.1.0 in let no = above.0.0 in cc)
-
-pub text_is : (s t : List ℕ) → bytes_eq s t ≡ true → s ≡ t
-text_is s t e = (bytes_eq-Decides s t).0 e
-
-pub text_alike : (s t : List ℕ) → s ≡ t → bytes_eq s t ≡ true
-text_alike s t e = (bytes_eq-Decides s t).1 e
 
 pub alone_text : {X : Type 0} (code : X → List ℕ) (c : List ℕ) (xs : List X) → AreApart (λ a b. bytes_eq (code a) (code b)) xs → length (filter (λ x. bytes_eq (code x) c) xs) ≤ 1
 alone_text code c = alone_if _ _ (λ a b p q. text_alike (code a) (code b) (text_is (code a) c p ∙ sym (text_is (code b) c q)))

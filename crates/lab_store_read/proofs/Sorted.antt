@@ -1,5 +1,5 @@
 -- What a query over typed tables answers, in the order that it asks for, and which values are equal or not below another.
-use Rattle.std.proofs.Common.{◌≡◌, ◌≤◌, ℤ, Bool, true, false, ◌&&◌, List, [], ◌∷◌, map, filter, length, Some, None, refl, ap, ◌∙◌, subst, arith, Ordering, Less, Equal, Greater, int_cmp, int_eq, bytes_eq, ℕ, pos, ◌==◌, ◌<◌, sym, lt-ltb, le-ltb, nat_le}
+use Rattle.std.proofs.Common.{◌≡◌, ◌≤◌, ℤ, Bool, true, false, ◌&&◌, List, [], ◌∷◌, map, filter, length, None, refl, ap, ◌∙◌, subst, arith, Ordering, Less, Equal, Greater, int_cmp, ℕ, pos, ◌==◌, ◌<◌, sym, lt-ltb, le-ltb, nat_le}
 use Rattle.std.specs.List.{list_all}
 use Rattle.std.specs.List.Sorted.{IsPermutation}
 use Rattle.std.specs.Ordering.{is_eq, ordering_then, nat_cmp, is_ge, is_le}
@@ -8,13 +8,12 @@ use Rattle.std.specs.Cmp.{int_cmp_is}
 use Rattle.std.proofs.lemmas.Bool.Decides.{nat_tests}
 use Rattle.std.proofs.lemmas.List.{length-map}
 use Rattle.std.proofs.lemmas.List.Sorted.{length_permutation}
-use Rattle.std.proofs.lemmas.Map.Text.{is_eq-slice_cmp}
-use Rattle.sqlite_value.specs.declared.value.Value.TheVariants.{Int, Text}
+use Rattle.sqlite_value.specs.declared.value.Value.TheVariants.{Int}
 use Rattle.sqlite_value.specs.declared.keys.Collation.TheVariants.{Binary}
 use Rattle.sqlite_value.specs.Order.{Row, value_cmp, column}
-use Rattle.sqlite_value.proofs.OrderLemmas.{value_cmp-Int, value_cmp-Text}
+use Rattle.sqlite_value.proofs.OrderLemmas.{value_cmp-Int}
 use Rattle.sqlite_trees.specs.Tree.{Trees, IsAscending}
-use Rattle.sqlite_sql.specs.Ops.{binary, is_true, from_truth}
+use Rattle.sqlite_sql.specs.Ops.{binary, is_true}
 use Rattle.sqlite_sql.specs.Term.{eval_all, holds, Term}
 use Rattle.sqlite_sql.specs.Group.{IsGrouped}
 use Rattle.sqlite_sql.specs.Query.{Query, matches, Output, output, output_cmp, page, IsKept as IsDistinct, IsAnswer}
@@ -30,18 +29,7 @@ use Rattle.sqlite_value.specs.declared.value.Value.{Value}
 use Rattle.sqlite_value.specs.Keys.{ascending, by_key}
 use Rattle.sqlite_keyed.specs.Keyed.{IsKeyedBy}
 use Rattle.lab_store_read.proofs.Texts.{own_query}
-
-pub truth_is : (b : Bool) → is_true (from_truth (Some b)) ≡ b
-truth_is true = refl
-truth_is false = refl
-
-pub equal_ints : (a b : ℤ) → is_true (binary (Compare Eq Binary) (Int a) (Int b)) ≡ int_eq a b
-unfolding binary
-equal_ints a b = truth_is _ ∙ ap is_eq (value_cmp-Int a b)
-
-pub equal_texts : (s t : List ℕ) → is_true (binary (Compare Eq Binary) (Text s) (Text t)) ≡ bytes_eq s t
-unfolding binary
-equal_texts s t = truth_is _ ∙ ap is_eq (value_cmp-Text s t) ∙ is_eq-slice_cmp s t
+use Rattle.lab_store_tables.proofs.Comparing.{truth_is}
 
 same_test : (a b : ℕ) (x : Bool) → (a == b) ≡ x → is_eq (int_cmp (pos a) (pos b)) ≡ x
 same_test a b true e = grind (arith, nat_tests)

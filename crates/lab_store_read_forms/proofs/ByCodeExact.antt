@@ -10,13 +10,14 @@ use Rattle.lab_store_tables.specs.Schema.{lab_schema}
 use Rattle.lab_store_tables.specs.Rows.{FormRow, form_id, tables_in}
 use Rattle.lab_store_tables.proofs.RowWords.{form_row}
 use Rattle.lab_store_tables.specs.Ready.{IsKept}
-use Rattle.lab_store_read.proofs.Sorted.{equal_ints, equal_texts, and_true, equal_numbers, only_answer, sorted_answer}
+use Rattle.lab_store_read.proofs.Sorted.{and_true, equal_numbers, only_answer, sorted_answer}
 use Rattle.lab_store_read_forms.specs.FormsByCode.{is_exact, exact_shown, is_of_code, form_versions_shown}
 use Rattle.lab_store_tables.specs.Meaning.{by_form}
 use Rattle.lab_store_tables.specs.Family.{Forms}
 use Rattle.lab_store_read_forms.proofs.ByCodeKeys.{forms_apart}
 use Rattle.lab_store_read_forms.proofs.ByCodeTexts.{exact_text, exact_query, exact_means, form_versions_text, form_versions_query, form_versions_means}
 use Rattle.lab_store_read_forms.proofs.Lists.{by_text_number, untied_versions, alone_version}
+use Rattle.lab_store_tables.proofs.Comparing.{equal_ints, equal_texts}
 
 pub exact_read : (old new : State) (lab : ℤ) (code : List ℕ) (version : ℕ) (rows : List Row) → IsKept old.now
     → Shown exact_text (Int lab ∷ Text code ∷ Int (pos version) ∷ []) old new rows → rows ≡ exact_shown (tables_in old.now.trees) lab code version

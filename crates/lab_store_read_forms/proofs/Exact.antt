@@ -14,11 +14,12 @@ use Rattle.lab_store_tables.specs.Family.{Forms, Fields}
 use Rattle.std.specs.Ordering.{int_eq, nat_cmp}
 use Rattle.sqlite_keyed.proofs.RuleLemmas.{at_most_one}
 use Rattle.lab_store_read.proofs.Lists.{untied_in}
-use Rattle.lab_store_read.proofs.Sorted.{equal_ints, and_true, by_one, only_answer, own_rows}
+use Rattle.lab_store_read.proofs.Sorted.{and_true, by_one, only_answer, own_rows}
 use Rattle.lab_store_read.proofs.Texts.{is_param}
 use Rattle.lab_store_read_forms.specs.Shown.{forms_shown, field_shown, fields_shown}
 use Rattle.lab_store_read_forms.proofs.Keys.{fields_apart}
 use Rattle.lab_store_read_forms.proofs.Texts.{form_text, form_query, form_means, field_text, field_columns, field_means}
+use Rattle.lab_store_tables.proofs.Comparing.{equal_ints}
 
 pub forms_read : (old new : State) (id : ℤ) (rows : List Row) → IsKept old.now → Shown form_text (Int id ∷ []) old new rows → rows ≡ forms_shown (tables_in old.now.trees) id
 forms_read old new id rows kept h =

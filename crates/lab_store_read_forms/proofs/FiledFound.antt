@@ -16,7 +16,7 @@ use Rattle.lab_store_tables.specs.WellKept.{IsWellKept, names_its_form}
 use Rattle.lab_store_tables.specs.Meaning.{form_in, form_at, record_in, records_of, by_record}
 use Rattle.lab_store_read_records.specs.Heads.{is_record, record_head}
 use Rattle.lab_store_read_records.proofs.Keys.{records_apart}
-use Rattle.lab_store_read.proofs.Lists.{alone_numbers, text_is, both_filtered}
+use Rattle.lab_store_read.proofs.Lists.{alone_numbers, both_filtered}
 use Rattle.lab_store_read_records.specs.Sought.{is_about, heads_within}
 use Rattle.lab_store_read_forms.specs.Wholes.{record_by}
 use Rattle.lab_store_read_records.proofs.Lists.{alone_key}
@@ -24,6 +24,7 @@ use Rattle.lab_store_read.proofs.Keys.{right}
 use Rattle.lab_store_read_records.proofs.RetrievalKeys.{samples_apart}
 use Rattle.lab_store_read.proofs.Finds.{found_alone}
 use Rattle.lab_store_read.proofs.Orders.{filter_sorted}
+use Rattle.lab_store_tables.proofs.Comparing.{text_is}
 
 record_total : IsTotalOrder by_record
 record_total = on_total (λ (one : RecordRow). one.number) nat_cmp_total

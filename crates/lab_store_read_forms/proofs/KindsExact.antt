@@ -13,11 +13,12 @@ use Rattle.lab_store_tables.proofs.RowWords.{choice_row}
 use Rattle.lab_store_tables.specs.Ready.{IsKept}
 use Rattle.lab_store_tables.specs.Family.{Choices}
 use Rattle.lab_store_read.proofs.Lists.{untied_in}
-use Rattle.lab_store_read.proofs.Sorted.{equal_ints, and_true, by_one, own_rows}
+use Rattle.lab_store_read.proofs.Sorted.{and_true, by_one, own_rows}
 use Rattle.lab_store_read.proofs.Texts.{is_param}
 use Rattle.lab_store_read_forms.specs.KindsShown.{name_shown, names_shown}
 use Rattle.lab_store_read_forms.proofs.KindKeys.{choices_apart}
 use Rattle.lab_store_read_forms.proofs.KindTexts.{name_text, name_means}
+use Rattle.lab_store_tables.proofs.Comparing.{equal_ints}
 
 pub names_read : (old new : State) (field : ℤ) (rows : List Row) → IsKept old.now → Shown name_text (Int field ∷ []) old new rows → rows ≡ names_shown (tables_in old.now.trees) field
 names_read old new field rows kept h =

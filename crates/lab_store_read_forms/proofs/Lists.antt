@@ -11,8 +11,9 @@ use Rattle.sqlite_trees.specs.Tree.{IsAscending}
 use Rattle.sqlite_keyed.specs.Rules.{AreApart}
 use Rattle.sqlite_keyed.proofs.ListLemmas.{ascending-filter}
 use Rattle.sqlite_keyed.proofs.KeyedLemmas.{same_int}
-use Rattle.lab_store_read.proofs.Lists.{passes_filter, alone_if, int_alike, text_is, text_alike, untied_found}
+use Rattle.lab_store_read.proofs.Lists.{passes_filter, alone_if, int_alike, untied_found}
 use Rattle.lab_store_read.proofs.Sorted.{by_one}
+use Rattle.lab_store_tables.proofs.Comparing.{text_is, text_alike}
 
 -- a form's code and then its version in ORDER BY
 pub by_text_number : (s t : List ℕ) (m n : ℕ)

@@ -16,7 +16,7 @@ use Rattle.lab_store_tables.specs.Changes.{is_person}
 use Rattle.lab_store_tables.specs.Meaning.{persons_of}
 use Rattle.lab_store_tables.specs.Family.{Persons}
 use Rattle.lab_store_read.proofs.Texts.{is_param}
-use Rattle.lab_store_read.proofs.Sorted.{equal_ints, equal_texts, and_true, only_answer, own_rows}
+use Rattle.lab_store_read.proofs.Sorted.{and_true, only_answer, own_rows}
 use Rattle.lab_store_read_people.specs.PersonsShown.{person_shown, person_shown_by, persons_shown}
 use Rattle.lab_store_read_people.specs.CountsShown.{count_shown}
 use Rattle.lab_store_read_people.proofs.CountAnswers.{count_answer, persons_counted}
@@ -24,6 +24,7 @@ use Rattle.lab_store_read_people.proofs.PersonKeys.{persons_apart}
 use Rattle.lab_store_read_people.proofs.PersonTexts.{person_text, person_query, person_means, persons_text, person_columns, persons_means, count_text, count_query, count_means}
 use Rattle.lab_store_read_people.proofs.PersonLists.{by_text}
 use Rattle.lab_store_read.proofs.Lists.{untied_texts, alone_texts}
+use Rattle.lab_store_tables.proofs.Comparing.{equal_ints, equal_texts}
 
 pub person_rows_read : (old new : State) (lab : ℤ) (code : List ℕ) (rows : List Row) → IsKept old.now → Shown person_text (Int lab ∷ Text code ∷ []) old new rows
     → rows ≡ person_shown_by (tables_in old.now.trees) lab code

@@ -17,12 +17,13 @@ use Rattle.lab_store_tables.proofs.RowWords.{person_row, session_row}
 use Rattle.lab_store_tables.specs.Ready.{IsKept}
 use Rattle.lab_store_tables.specs.Changes.{is_session}
 use Rattle.lab_store_tables.specs.Family.{Persons, Sessions}
-use Rattle.lab_store_read.proofs.Sorted.{equal_ints, and_true, only_answer}
+use Rattle.lab_store_read.proofs.Sorted.{and_true, only_answer}
 use Rattle.lab_store_read.proofs.Lists.{at_id, joined, alone_texts}
 use Rattle.lab_store_read_people.specs.SessionsShown.{sessions_shown}
 use Rattle.lab_store_read_people.proofs.SessionKeys.{tokens_apart, workers}
 use Rattle.lab_store_read_people.proofs.SessionTexts.{session_text, session_query, session_columns, session_means}
-use Rattle.lab_store_read_people.proofs.SessionLists.{equal_blobs, and_moved}
+use Rattle.lab_store_read_people.proofs.SessionLists.{and_moved}
+use Rattle.lab_store_tables.proofs.Comparing.{equal_ints, equal_blobs}
 
 -- a session is shown with the code of its person
 abbrev no_person : PersonRow

@@ -27,8 +27,9 @@ use Rattle.lab_store_read_records.specs.Shown.{labs_shown, records_shown, own_en
 use Rattle.lab_store_read_records.proofs.Keys.{labs_apart, records_apart, versions_apart, entries_apart, signatures_apart, openers, signers}
 use Rattle.lab_store_read_records.proofs.Texts.{lab_text, lab_query, lab_means, record_text, record_means, child_tests, entry_text, entry_columns, entry_means, signature_text, signature_columns, signature_means, version_text, version_columns, version_means}
 use Rattle.lab_store_read.proofs.Texts.{record_query, children_query, is_param}
-use Rattle.lab_store_read.proofs.Sorted.{equal_ints, equal_numbers, equal_texts, and_true, by_one, only_answer, sorted_answer, own_rows}
+use Rattle.lab_store_read.proofs.Sorted.{equal_numbers, and_true, by_one, only_answer, sorted_answer, own_rows}
 use Rattle.lab_store_read.proofs.Lists.{alone_text, alone_numbers, at_id, untied_in, joined}
+use Rattle.lab_store_tables.proofs.Comparing.{equal_ints, equal_texts}
 
 pub labs_read : (old new : State) (code : List ℕ) (rows : List Row) → IsKept old.now → Shown lab_text (Text code ∷ []) old new rows → rows ≡ labs_shown (tables_in old.now.trees) code
 labs_read old new code rows kept h =

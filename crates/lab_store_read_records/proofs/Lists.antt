@@ -3,7 +3,8 @@ use Rattle.std.proofs.Common.{◌≤◌, ℕ, ℤ, ◌&&◌, List, filter, lengt
 use Rattle.std.proofs.lemmas.Bool.{and_parts, and_from}
 use Rattle.sqlite_keyed.specs.Rules.{AreApart}
 use Rattle.sqlite_keyed.proofs.KeyedLemmas.{same_int}
-use Rattle.lab_store_read.proofs.Lists.{alone_if, int_alike, text_is, text_alike}
+use Rattle.lab_store_read.proofs.Lists.{alone_if, int_alike}
+use Rattle.lab_store_tables.proofs.Comparing.{text_is, text_alike}
 
 -- one parent and two texts
 pub alone_key : {X : Type 0} (parent : X → ℤ) (first second : X → List ℕ) (v : ℤ) (f s : List ℕ) (xs : List X)

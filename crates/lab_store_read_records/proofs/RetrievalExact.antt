@@ -15,7 +15,7 @@ use Rattle.std.specs.Ordering.{nat_cmp}
 use Rattle.lab_records_kept.specs.Lookups.{is_within}
 use Rattle.lab_store_read_records.specs.Shown.{record_shown}
 use Rattle.lab_store_read_records.proofs.Keys.{records_apart}
-use Rattle.lab_store_read.proofs.Sorted.{equal_ints, equal_texts, and_true, by_one, only_answer, from_number, to_number, own_rows}
+use Rattle.lab_store_read.proofs.Sorted.{and_true, by_one, only_answer, from_number, to_number, own_rows}
 use Rattle.lab_store_read.proofs.Texts.{is_param, range_tests}
 use Rattle.lab_store_read_records.specs.Sought.{is_about, is_record_within}
 use Rattle.lab_store_read_records.specs.Retrieved.{abouts_shown, within_shown}
@@ -23,6 +23,7 @@ use Rattle.lab_store_read_records.proofs.RetrievalKeys.{samples_apart}
 use Rattle.lab_store_read_records.proofs.RetrievalTexts.{about_text, about_query, about_means, within_text, within_columns, within_means}
 use Rattle.lab_store_read_records.proofs.Lists.{alone_key}
 use Rattle.lab_store_read.proofs.Lists.{untied_also}
+use Rattle.lab_store_tables.proofs.Comparing.{equal_ints, equal_texts}
 
 pub abouts_read : (old new : State) (lab : ℤ) (form sample : List ℕ) (rows : List Row) → IsKept old.now → Shown about_text (Int lab ∷ Text form ∷ Text sample ∷ []) old new rows
     → rows ≡ abouts_shown (tables_in old.now.trees) lab form sample

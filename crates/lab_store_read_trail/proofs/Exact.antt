@@ -14,11 +14,12 @@ use Rattle.lab_store_tables.specs.Family.{Trail}
 use Rattle.lab_store_read.proofs.Texts.{is_param, range_tests}
 use Rattle.lab_records_kept.specs.Lookups.{is_within}
 use Rattle.lab_store_read.proofs.Lists.{untied_also}
-use Rattle.lab_store_read.proofs.Sorted.{equal_ints, and_true, by_one, from_number, to_number, own_rows}
+use Rattle.lab_store_read.proofs.Sorted.{and_true, by_one, from_number, to_number, own_rows}
 use Rattle.lab_store_read_trail.specs.Shown.{told_shown, told_shown_within}
 use Rattle.lab_store_read_trail.specs.Trails.{is_told_within}
 use Rattle.lab_store_read_trail.proofs.Keys.{told_apart}
 use Rattle.lab_store_read_trail.proofs.Texts.{told_text, told_columns, told_means}
+use Rattle.lab_store_tables.proofs.Comparing.{equal_ints}
 
 pub told_rows_read : (old new : State) (lab : ℤ) (from to : ℕ) (rows : List Row) → IsKept old.now → Shown told_text (Int lab ∷ Int (pos from) ∷ Int (pos to) ∷ []) old new rows
     → rows ≡ told_shown_within (tables_in old.now.trees) lab from to

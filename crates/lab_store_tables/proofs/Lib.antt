@@ -5,6 +5,7 @@ pub mod RowWords
 pub mod AgreeWords
 pub mod SchemaValues
 pub mod SheetValues
+pub mod Comparing
 pub mod Tests
 pub mod KnownFile
 pub mod KnownRows

@@ -13,12 +13,13 @@ use Rattle.lab_store_tables.specs.Changes.{is_person, person_named, IsNamedIfAny
 use Rattle.lab_store_tables.specs.Held.{IsTyped}
 use Rattle.lab_store_tables.specs.Family.{Persons}
 use Rattle.lab_store_read.proofs.Texts.{Means, is_param}
-use Rattle.lab_store_read.proofs.Sorted.{equal_ints, equal_texts, and_true}
+use Rattle.lab_store_read.proofs.Sorted.{and_true}
 use Rattle.lab_store_write.specs.Calls.{Steps, Finds}
 use Rattle.lab_store_write.specs.Ids.{id_read}
 use Rattle.lab_store_write.specs.Shown.{persons_shown}
 use Rattle.lab_store_write.proofs.Inside.{steps_weaker, steps_none}
 use Rattle.lab_store_write.proofs.Lookups.{by_key_query, rows_by_key, first_key}
+use Rattle.lab_store_tables.proofs.Comparing.{equal_ints, equal_texts}
 
 -- ---- a person by the code
 

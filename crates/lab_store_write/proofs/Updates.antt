@@ -37,11 +37,12 @@ use Rattle.lab_store_tables.proofs.FamilyWords.{table_in, tree_of, stored_row, w
 use Rattle.lab_store_tables.specs.Held.{IsTyped}
 use Rattle.lab_store_laws.proofs.Tables.{stored_with, rising_with, held_if_stored}
 use Rattle.lab_store_read.proofs.Texts.{is_param}
-use Rattle.lab_store_read.proofs.Sorted.{short_permutation, and_true, equal_ints}
+use Rattle.lab_store_read.proofs.Sorted.{short_permutation, and_true}
 use Rattle.lab_store_write.proofs.Columns.{stays}
 use Rattle.lab_store_write.proofs.Writes.{uncounted, answered, by_tests_query, update_edit}
 use Rattle.lab_store_write.proofs.Inserts.{place, there, lies}
 use Rattle.lab_store_write.proofs.Inside.{Wrote}
+use Rattle.lab_store_tables.proofs.Comparing.{equal_ints}
 
 -- ---- rows that pass tests, in whatever order they come
 

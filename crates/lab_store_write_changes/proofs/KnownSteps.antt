@@ -1,11 +1,10 @@
 -- Changes by a person who is known by code and id: who is so before one of them is so after it.
-use Rattle.std.proofs.Common.{◌≡◌, ℕ, ◌+◌, ◌<◌, ℤ, Bool, true, false, ◌&&◌, cond, List, [], ◌∷◌, map, find, take, length, get_or, Option, Some, None, option_map, IsTrue, refl, sym, ap, ap₂, subst, ◌∙◌, int_eq, bytes_eq}
+use Rattle.std.proofs.Common.{◌≡◌, ℕ, ◌+◌, ◌<◌, ℤ, Bool, true, false, ◌&&◌, cond, List, [], ◌∷◌, map, find, take, length, get_or, Option, Some, None, option_map, IsTrue, refl, sym, ap, ap₂, ◌∙◌, int_eq, bytes_eq}
 use Rattle.std.specs.List.{AllByRecursion, list_all}
 use Rattle.std.proofs.lemmas.Bool.{and_parts}
 use Rattle.std.proofs.lemmas.List.Folds.{list_all_at}
 use Rattle.sqlite_rules.specs.Lists.{Has}
 use Rattle.sqlite_rules.proofs.ListLemmas.{all_from}
-use Rattle.sqlite_keyed.specs.Lists.{update_where}
 use Rattle.sqlite_keyed.proofs.KeyedLemmas.{same_int}
 use Rattle.sqlite.specs.Effect.{IsDatabase}
 use Rattle.sqlite.specs.State.{State}
@@ -13,7 +12,7 @@ use Rattle.lab_people_access.specs.declared.persons.Person.{Person}
 use Rattle.lab_records_kept.specs.declared.changes.Change.{Change}
 use Rattle.lab_records_kept.specs.declared.changes.Change.TheVariants.{Last, Strays, PersonAdded, PersonSet, SessionAdded, SessionSet, SessionsClosed, FormAdded, RecordAdded, RowAdded, VersionOpened, SignatureAdded, TrailAdded}
 use Rattle.lab_store_tables.specs.Rows.{PersonRow, Tables, person_id}
-use Rattle.lab_store_tables.specs.Changes.{InTurn, IsNamedIfAny, is_person, person_named, person_row_of, SetsPerson}
+use Rattle.lab_store_tables.specs.Changes.{IsNamedIfAny, is_person, person_named, person_row_of, SetsPerson}
 use Rattle.lab_store_tables.specs.WellKept.{have_own_ids}
 use Rattle.lab_store_tables.specs.Held.{AreRising, IsTyped}
 use Rattle.lab_store_tables.specs.Ready.{tables_of}
@@ -21,7 +20,6 @@ use Rattle.lab_store_laws.specs.Steps.{AppliesWhereKept, StepsBy}
 use Rattle.lab_store_laws.proofs.Bridges.{apart_from_test}
 use Rattle.lab_store_laws.proofs.Ids.{own_ids}
 use Rattle.lab_store_laws.proofs.KeptByRules.{ids_by_order}
-use Rattle.lab_store_laws.proofs.LabLaws.{text_is}
 use Rattle.lab_store_laws.proofs.Named.{the_row}
 use Rattle.lab_store_laws.proofs.OneRow.{kept}
 use Rattle.lab_store_write.specs.declared.statements.RowId.{RowId}
@@ -30,6 +28,7 @@ use Rattle.lab_store_write.specs.Ids.{row_id}
 use Rattle.lab_store_write.proofs.Inside.{turn_more}
 use Rattle.lab_store_write_changes.specs.Framed.{spares_lab, Knows, StepsKnowing}
 use Rattle.lab_store_write_changes.proofs.Steps.{rules_of}
+use Rattle.lab_store_tables.proofs.Comparing.{text_is}
 
 -- ---- who is named, where persons stay, and where one of them is set
 

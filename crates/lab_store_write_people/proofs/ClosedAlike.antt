@@ -17,8 +17,9 @@ use Rattle.lab_store_tables.specs.Meaning.{code_of}
 use Rattle.lab_store_tables.specs.Changes.{is_person, person_named, is_to_close, close_sessions}
 use Rattle.lab_store_tables.specs.WellKept.{is_same, is_session_within, same_person, IsWellKept}
 use Rattle.lab_store_laws.proofs.Bridges.{apart_from_test}
-use Rattle.lab_store_read.proofs.Lists.{int_alike, text_is, text_alike}
+use Rattle.lab_store_read.proofs.Lists.{int_alike}
 use Rattle.lab_store_write_people.specs.Closings.{is_meant, closed_row, ClosesOf}
+use Rattle.lab_store_tables.proofs.Comparing.{text_is, text_alike}
 
 bool_same : (a b : Bool) → (a ≡ true → b ≡ true) → (b ≡ true → a ≡ true) → a ≡ b
 bool_same true b f g = sym (f refl)

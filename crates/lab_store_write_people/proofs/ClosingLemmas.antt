@@ -28,13 +28,14 @@ use Rattle.lab_store_tables.specs.Held.{IsTyped}
 use Rattle.lab_store_tables.specs.Ready.{tables_of}
 use Rattle.lab_store_tables.specs.Family.{Sessions}
 use Rattle.lab_store_read.proofs.Texts.{Means, is_param}
-use Rattle.lab_store_read.proofs.Sorted.{truth_is, equal_ints, and_true}
+use Rattle.lab_store_read.proofs.Sorted.{and_true}
 use Rattle.lab_store_read.proofs.Lists.{int_alike}
 use Rattle.lab_store_write.specs.Calls.{Steps, Finds}
 use Rattle.lab_store_write.specs.Ids.{id_read}
 use Rattle.lab_store_write_people.specs.Closings.{is_meant, closed_row, ClosesRow, close_of, is_open_of, opened_shown, ClosesOf}
 use Rattle.lab_store_write.proofs.Inside.{steps_then}
 use Rattle.lab_store_write.proofs.Lookups.{by_key_query, rows_by_key}
+use Rattle.lab_store_tables.proofs.Comparing.{truth_is, equal_ints}
 
 -- ---- tests
 

@@ -1,20 +1,13 @@
 -- What each statement on sessions means, and what it makes of the tables.
 use Rattle.std.proofs.Common.{◌≡◌, inl, inr, ℕ, ℤ, ◌<ℤ◌, Bool, true, false, not, ◌&&◌, cond, List, [], ◌∷◌, filter, slice_get, codes, option_map, Ok, refl, sym, ap, ap₂, subst, ◌∙◌, arith, int_eq, bytes_eq}
-use Rattle.std.specs.Ordering.{is_eq, is_ne}
 use Rattle.std.proofs.lemmas.Int.{ints}
 use Rattle.std.proofs.lemmas.Bool.{and_parts, and_from, not-true, both_ways}
-use Rattle.std.proofs.lemmas.Map.Text.{is_eq-slice_cmp}
-use Rattle.sqlite_value.specs.declared.keys.Collation.TheVariants.{Binary}
 use Rattle.sqlite_value.specs.declared.value.Value.TheVariants.{Int, Blob}
 use Rattle.sqlite_value.specs.Keys.{plain, first_key}
 use Rattle.sqlite_value.specs.Order.{Row, column}
-use Rattle.sqlite_value.proofs.OrderLemmas.{value_cmp-Int, value_cmp-Blob}
 use Rattle.sqlite_schema.specs.declared.schema.Constraint.TheVariants.{Unique}
 use Rattle.sqlite_schema.specs.declared.schema.Schema.{Schema}
 use Rattle.sqlite_schema.specs.Rules.{Obeys, agree, differ, clashes}
-use Rattle.sqlite_sql.specs.declared.ops.BinaryOp.TheVariants.{Compare}
-use Rattle.sqlite_sql.specs.declared.ops.CompareOp.TheVariants.{Eq}
-use Rattle.sqlite_sql.specs.Ops.{binary, is_true}
 use Rattle.sqlite_sql.specs.Term.{Term}
 use Rattle.sqlite_tied.specs.Compute.{everything}
 use Rattle.sqlite_rules.specs.Lists.{Has}
@@ -23,7 +16,7 @@ use Rattle.sqlite_keyed.specs.Keyed.{IsKeyedBy, next_key}
 use Rattle.sqlite_keyed.specs.Lists.{update_where}
 use Rattle.sqlite_keyed.specs.Rules.{AreApart}
 use Rattle.sqlite_keyed.proofs.ListLemmas.{ascending_weaker, slice_get-filter}
-use Rattle.sqlite_keyed.proofs.KeyedLemmas.{Less-from_lt, int_eq_apart, same_int}
+use Rattle.sqlite_keyed.proofs.KeyedLemmas.{int_eq_apart, same_int}
 use Rattle.sqlite.specs.Effect.{Database, IsDatabase}
 use Rattle.sqlite.specs.Listing.{understood}
 use Rattle.sqlite.specs.State.{State, Executes}
@@ -38,12 +31,13 @@ use Rattle.lab_store_tables.proofs.FamilyWords.{values_of}
 use Rattle.lab_store_laws.proofs.LabLaws.{same_id}
 use Rattle.lab_store_laws.proofs.RowSet.{map_alike}
 use Rattle.lab_store_read.proofs.Texts.{is_param}
-use Rattle.lab_store_read.proofs.Sorted.{truth_is, equal_ints, and_true}
-use Rattle.lab_store_read.proofs.Lists.{int_alike, text_is, text_alike}
+use Rattle.lab_store_read.proofs.Sorted.{and_true}
+use Rattle.lab_store_read.proofs.Lists.{int_alike}
 use Rattle.lab_store_write.proofs.Inserts.{adds}
 use Rattle.lab_store_write.proofs.Updates.{IsUpdate, given, sets_where}
 use Rattle.lab_store_write.proofs.Inside.{Wrote}
 use Rattle.lab_store_write_people.specs.Added.{SetsIfAny}
+use Rattle.lab_store_tables.proofs.Comparing.{equal_ints, text_is, text_alike, equal_blobs, ids_differ}
 
 -- ---- a row more of sessions
 
@@ -57,16 +51,6 @@ session_values = values_of Sessions
 pub adds_session : (one : SessionRow) (old new : State) (count : ℕ) → IsTyped old.now → one.id ≡ next_key session_id (tables_in old.now.trees).sessions → Executes add_session_text (session_values one) old new (Ok count)
     → Wrote (put_session one (tables_in old.now.trees)) new.now
 adds_session = adds Sessions
-
--- ---- values that are equal, and ids that differ
-
-equal_blobs : (s t : List ℕ) → is_true (binary (Compare Eq Binary) (Blob s) (Blob t)) ≡ bytes_eq s t
-unfolding binary
-equal_blobs s t = truth_is _ ∙ ap is_eq (value_cmp-Blob s t) ∙ is_eq-slice_cmp s t
-
-ids_differ : (a b : ℤ) → a <ℤ b → differ (Int a) (Int b) ≡ true
-unfolding binary
-ids_differ a b low = truth_is _ ∙ ap is_ne (value_cmp-Int a b ∙ Less-from_lt a b low)
 
 -- ---- the row of a token set
 

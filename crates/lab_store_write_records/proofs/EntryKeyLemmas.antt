@@ -14,12 +14,13 @@ use Rattle.lab_store_tables.specs.Changes.{is_record_row, record_named}
 use Rattle.lab_store_tables.specs.Held.{IsTyped}
 use Rattle.lab_store_tables.specs.Family.{Records, Entries, Signatures}
 use Rattle.lab_store_read.proofs.Texts.{Means, is_param}
-use Rattle.lab_store_read.proofs.Sorted.{equal_ints, equal_numbers, and_true}
+use Rattle.lab_store_read.proofs.Sorted.{equal_numbers, and_true}
 use Rattle.lab_store_write.specs.Calls.{Steps, Finds}
 use Rattle.lab_store_write.proofs.Inside.{steps_weaker}
 use Rattle.lab_store_write.proofs.Lookups.{by_key_query, rows_by_key}
 use Rattle.lab_store_write_records.specs.VersionsShown.{records_shown, is_entry_of, is_signature_of, record_key_of, record_pair}
 use Rattle.lab_store_write_records.proofs.VersionsShownWords.{entries_shown, signatures_shown}
+use Rattle.lab_store_tables.proofs.Comparing.{equal_ints}
 
 -- ---- a record, with its current version
 

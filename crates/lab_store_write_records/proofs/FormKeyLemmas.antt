@@ -12,10 +12,11 @@ use Rattle.lab_store_tables.proofs.RowWords.{field_row, choice_row}
 use Rattle.lab_store_tables.specs.Held.{IsTyped}
 use Rattle.lab_store_tables.specs.Family.{Fields, Choices}
 use Rattle.lab_store_read.proofs.Texts.{Means, is_param}
-use Rattle.lab_store_read.proofs.Sorted.{equal_ints, and_true}
+use Rattle.lab_store_read.proofs.Sorted.{and_true}
 use Rattle.lab_store_write.proofs.Lookups.{by_key_query, rows_by_key}
 use Rattle.lab_store_write_records.specs.FieldsShown.{is_field_of, is_choice_of}
 use Rattle.lab_store_write_records.proofs.FieldsShownWords.{fields_shown, choices_shown}
+use Rattle.lab_store_tables.proofs.Comparing.{equal_ints}
 
 -- ---- the place behind the fields of one parent
 

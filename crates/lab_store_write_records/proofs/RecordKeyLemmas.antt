@@ -13,12 +13,13 @@ use Rattle.lab_store_tables.specs.Changes.{is_form_row, form_named}
 use Rattle.lab_store_tables.specs.Held.{IsTyped}
 use Rattle.lab_store_tables.specs.Family.{Forms}
 use Rattle.lab_store_read.proofs.Texts.{Means, is_param}
-use Rattle.lab_store_read.proofs.Sorted.{equal_ints, equal_texts, equal_numbers, and_true}
+use Rattle.lab_store_read.proofs.Sorted.{equal_numbers, and_true}
 use Rattle.lab_store_write.specs.Calls.{Steps, Finds}
 use Rattle.lab_store_write.specs.Ids.{id_read}
 use Rattle.lab_store_write.proofs.Inside.{steps_weaker}
 use Rattle.lab_store_write.proofs.Lookups.{by_key_query, rows_by_key, first_key}
 use Rattle.lab_store_write_records.specs.FormsShown.{forms_shown}
+use Rattle.lab_store_tables.proofs.Comparing.{equal_ints, equal_texts}
 
 and_moved : (a b c : Bool) → (a && (b && c)) ≡ (a && b && c)
 and_moved true b c = refl

@@ -32,10 +32,11 @@ use Rattle.lab_store_tables.specs.Changes.{is_record_row, is_version_row, versio
 use Rattle.lab_store_tables.specs.Held.{IsTyped}
 use Rattle.lab_store_tables.specs.Family.{Records, Versions}
 use Rattle.lab_store_read.proofs.Texts.{Means, is_param}
-use Rattle.lab_store_read.proofs.Sorted.{equal_ints, equal_numbers, and_true}
+use Rattle.lab_store_read.proofs.Sorted.{equal_numbers, and_true}
 use Rattle.lab_store_write.specs.Calls.{Steps, Finds}
 use Rattle.lab_store_write.proofs.Inside.{steps_weaker}
 use Rattle.lab_store_write_records.specs.VersionsShown.{current_of, version_in_record, ids_or_null, versions_shown, first_value}
+use Rattle.lab_store_tables.proofs.Comparing.{equal_ints}
 
 -- ---- rows beside others, in the order of both
 
