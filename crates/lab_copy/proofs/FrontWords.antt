@@ -1,4 +1,4 @@
--- Words of proofs alone, beside the definitions of specs/Fronts.antt: no clause names them.
+-- Definitions for proofs only, which belong to specs/Fronts.antt: no clause names them.
 use Rattle.std.specs.Prelude.{ℕ, List}
 use Rattle.lab_copy.specs.Fronts.{front, text_begun}
 

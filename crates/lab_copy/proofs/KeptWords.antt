@@ -1,4 +1,4 @@
--- Words of proofs alone, beside the definitions of specs/Kept.antt: no clause names them.
+-- Definitions for proofs only, which belong to specs/Kept.antt: no clause names them.
 use Rattle.std.specs.Prelude.{ℕ, Option, option_map}
 use Rattle.lab_copy_rows.specs.declared.lines.VersionLine.{VersionLine}
 use Rattle.lab_copy.specs.Current.{begun}

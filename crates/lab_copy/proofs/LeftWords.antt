@@ -1,4 +1,4 @@
--- Words of proofs alone, beside the definitions of specs/Left.antt: no clause names them.
+-- Definitions for proofs only, which belong to specs/Left.antt: no clause names them.
 use Rattle.std.specs.Prelude.{ℕ, List, Option, Result}
 use Rattle.csv.specs.declared.parser.State.{State}
 use Rattle.lab_copy_rows.specs.declared.flaws.Flaw.{Flaw}

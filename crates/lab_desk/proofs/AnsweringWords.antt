@@ -1,4 +1,4 @@
--- Words of proofs alone, beside the definitions of specs/Answering.antt: no clause names them.
+-- Definitions for proofs only, which belong to specs/Answering.antt: no clause names them.
 use Rattle.std.specs.Prelude.{Result}
 use Rattle.lab_forms_texts.specs.declared.refusals.Fault.{Fault}
 use Rattle.lab_records_keeper.specs.declared.faults.BadStore.{BadStore}

@@ -1,4 +1,4 @@
--- Words of proofs alone, beside the definitions of specs/Leaving.antt: no clause names them.
+-- Definitions for proofs only, which belong to specs/Leaving.antt: no clause names them.
 use Rattle.std.specs.Prelude.{◌≡◌, List, [], ◌∷◌, Bool, true}
 
 -- each event was taken; and each but the last

@@ -1,4 +1,4 @@
--- Words of proofs alone, beside the definitions of specs/Requests.antt: no clause names them.
+-- Definitions for proofs only, which belong to specs/Requests.antt: no clause names them.
 use Rattle.std.specs.Prelude.{◌≡◌, ◌↔◌, ℕ, List, [], Option, IsTrue}
 use Rattle.lab_forms_texts.specs.declared.tick.Tick.{Tick}
 use Rattle.lab_records_kept.specs.declared.changes.Change.{Change}

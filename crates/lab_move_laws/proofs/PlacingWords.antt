@@ -1,4 +1,4 @@
--- Words of proofs alone, beside the definitions of specs/Placings.antt: no clause names them.
+-- Definitions for proofs only, which belong to specs/Placings.antt: no clause names them.
 use Rattle.std.specs.Prelude.{[]}
 use Rattle.lab_records_kept.specs.declared.labs.Lab.{Lab}
 

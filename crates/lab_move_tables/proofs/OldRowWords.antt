@@ -1,4 +1,4 @@
--- Words of proofs alone, beside the definitions of specs/OldRows.antt: no clause names them.
+-- Definitions for proofs only, which belong to specs/OldRows.antt: no clause names them.
 use Rattle.sqlite_value.specs.Order.{Row}
 use Rattle.lab_store_tables.specs.Rows.{PersonRow, FormRow, VersionRow, EntryRow, SignatureRow}
 use Rattle.lab_store_tables.specs.Family.{Persons, Forms, Versions, Entries, Signatures, row_by, from_by}

@@ -1,4 +1,4 @@
--- Words of proofs alone, beside the definitions of specs/OldSchema.antt: no clause names them.
+-- Definitions for proofs only, which belong to specs/OldSchema.antt: no clause names them.
 use Rattle.std.specs.Prelude.{codes, List, ℕ}
 use Rattle.lab_move_tables.specs.OldSchema.{persons, forms, versions}
 

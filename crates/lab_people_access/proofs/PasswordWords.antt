@@ -1,4 +1,4 @@
--- Words of proofs alone, beside the definitions of specs/Passwords.antt: no clause names them.
+-- Definitions for proofs only, which belong to specs/Passwords.antt: no clause names them.
 use Rattle.std.specs.Prelude.{Bool, true, ◌&&◌}
 use Rattle.lab_people_access.specs.declared.passwords.Password.{Password}
 use Rattle.lab_people_access.specs.declared.passwords.Password.TheVariants.{Unset, Chosen, OneTime}

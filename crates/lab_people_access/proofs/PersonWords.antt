@@ -1,4 +1,4 @@
--- Words of proofs alone, beside the definitions of specs/Persons.antt: no clause names them.
+-- Definitions for proofs only, which belong to specs/Persons.antt: no clause names them.
 use Rattle.std.specs.Prelude.{Bool, true, ◌&&◌, Option, Some, None}
 use Rattle.lab_people_access.specs.declared.persons.Person.{Person}
 use Rattle.lab_people_access.specs.declared.persons.Ask.{Ask}

@@ -1,4 +1,4 @@
--- Words of proofs alone, beside the definitions of specs/ListLaws.antt: no clause names them.
+-- Definitions for proofs only, which belong to specs/ListLaws.antt: no clause names them.
 use Rattle.std.proofs.Common.{◌≡◌, ℕ, List, [], refl, Option, Some, None, ◌∙◌}
 use Rattle.std.specs.Prelude.{slice_get, slice_set, MatchOption}
 use Rattle.std.specs.List.{position_or_len}

@@ -1,4 +1,4 @@
--- Words of proofs alone, beside the definitions of specs/StoreWorlds.antt: no clause names them.
+-- Definitions for proofs only, which belong to specs/StoreWorlds.antt: no clause names them.
 use Rattle.std.specs.Prelude.{◌≡◌}
 use Rattle.sqlite.specs.State.{State}
 use Rattle.lab_store_tables.specs.Ready.{tables_of}

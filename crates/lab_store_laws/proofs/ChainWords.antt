@@ -1,4 +1,4 @@
--- Words of proofs alone, beside the definitions of specs/Chain.antt: no clause names them.
+-- Definitions for proofs only, which belong to specs/Chain.antt: no clause names them.
 use Rattle.std.specs.Prelude.{ℕ, ◌==◌, Bool, List, [], ◌∷◌, ◌++◌, Option, Some}
 use Rattle.lab_seal_versions.specs.declared.rows.EntryRow.{EntryRow}
 use Rattle.lab_records_kept.specs.declared.records.Record.{Record}

@@ -1,4 +1,4 @@
--- Words of proofs alone, beside the definitions of specs/Agree.antt: no clause names them.
+-- Definitions for proofs only, which belong to specs/Agree.antt: no clause names them.
 use Rattle.std.specs.Prelude.{◌≡◌, ℕ, List}
 use Rattle.lab_store_tables.specs.Rows.{Tables}
 use Rattle.lab_store_tables.specs.Meaning.{meaning}

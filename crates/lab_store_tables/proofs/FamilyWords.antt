@@ -1,4 +1,4 @@
--- Words of proofs alone, beside the definitions of specs/Family.antt: no clause names them.
+-- Definitions for proofs only, which belong to specs/Family.antt: no clause names them.
 use Rattle.std.specs.Prelude.{ℕ, ◌==◌, List, [], ◌∷◌, map, if◌then◌else◌}
 use Rattle.sqlite_value.specs.Order.{Row}
 use Rattle.sqlite_trees.specs.Tree.{Trees}

@@ -1,4 +1,4 @@
--- Words of proofs alone, beside the definitions of specs/Rows.antt: no clause names them.
+-- Definitions for proofs only, which belong to specs/Rows.antt: no clause names them.
 use Rattle.sqlite_value.specs.Order.{Row}
 use Rattle.lab_store_tables.specs.Family.{Desk, Labs, Persons, Sessions, Forms, Fields, Choices, Records, Versions, Entries, Signatures, Trail}
 use Rattle.lab_store_tables.proofs.FamilyWords.{stored_row, read_row}

@@ -1,4 +1,4 @@
--- Words of proofs alone, beside the definitions of specs/Schema.antt: no clause names them.
+-- Definitions for proofs only, which belong to specs/Schema.antt: no clause names them.
 use Rattle.std.specs.Prelude.{[], ◌∷◌, codes, List, ℕ}
 use Rattle.lab_store_tables.specs.Schema.{desk_text, labs_text, persons_text, sessions_text, forms_text, fields_text, choices_text, records_text, versions_text, entries_text, signatures_text, trail_text, sessions, sessions_of_person}
 

@@ -1,4 +1,4 @@
--- Words of proofs alone, beside the definitions of specs/Sheets.antt: no clause names them.
+-- Definitions for proofs only, which belong to specs/Sheets.antt: no clause names them.
 use Rattle.std.specs.Prelude.{ℕ, ◌+◌, ◌/◌, ◌%◌, Bool, not, ◌&&◌, ◌==◌, List, [], ◌∷◌, ◌++◌, map, length, filter, Option, Some, None, bytes_eq, nat_lt, codes, if◌then◌else◌}
 use Rattle.std.specs.List.{list_any}
 use Rattle.sqlite_value.specs.declared.value.Value.TheVariants.{Null}

@@ -1,4 +1,4 @@
--- Words of proofs alone, beside the definitions of specs/Persons.antt: no clause names them.
+-- Definitions for proofs only, which belong to specs/Persons.antt: no clause names them.
 use Rattle.std.specs.Prelude.{ℕ, ℤ, [], ◌∷◌, option_map}
 use Rattle.sqlite_value.specs.declared.value.Value.TheVariants.{Int, Text, Blob}
 use Rattle.sqlite_value.specs.Order.{Row}

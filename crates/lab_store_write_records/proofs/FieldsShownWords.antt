@@ -1,4 +1,4 @@
--- Words of proofs alone, beside the definitions of specs/FieldsShown.antt: no clause names them.
+-- Definitions for proofs only, which belong to specs/FieldsShown.antt: no clause names them.
 use Rattle.std.specs.Prelude.{ℤ, List, [], ◌∷◌, map, filter}
 use Rattle.sqlite_value.specs.declared.value.Value.TheVariants.{Int}
 use Rattle.sqlite_value.specs.Order.{Row}

@@ -1,4 +1,4 @@
--- Words of proofs alone, beside the definitions of specs/Places.antt: no clause names them.
+-- Definitions for proofs only, which belong to specs/Places.antt: no clause names them.
 use Rattle.std.specs.Prelude.{ℕ, List, Option, Some, None, Result, Err}
 use Rattle.lab_wire.specs.declared.route_refusals.RouteRefusal.{RouteRefusal}
 use Rattle.lab_wire.specs.declared.route_refusals.RouteRefusal.TheVariants.{NoRoute}
