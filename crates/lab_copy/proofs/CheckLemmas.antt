@@ -14,8 +14,8 @@ use Rattle.lab_copy.specs.Checks.{fault_at, most_rows, csv_rows_of}
 use Rattle.lab_copy_lines.specs.Lines.{IsRowRead, line_at}
 use Rattle.lab_copy.specs.Kept.{IsAt, IsTaken, edition_by, verdict_kept}
 use Rattle.lab_copy.specs.Left.{AnswersRest, AreRows, IsLeftOf}
-use Rattle.lab_copy.specs.declared.faults.CheckFault.{CheckFault}
-use Rattle.lab_copy.specs.declared.faults.CheckFault.TheVariants.{Flawed, Read, Memory}
+use Rattle.lab_copy.specs.declared.faults.CopyFault.{CopyFault}
+use Rattle.lab_copy.specs.declared.faults.CopyFault.TheVariants.{Flawed, Read, Memory}
 use Rattle.lab_forms_texts.specs.declared.refusals.Fault.{Fault}
 use Rattle.lab_forms_texts.specs.declared.refusals.Fault.TheVariants as row_fault
 use Rattle.lab_copy_lines.specs.declared.faults.BadRow.{BadRow}
@@ -23,7 +23,7 @@ use Rattle.lab_copy.specs.declared.kept.Kept.{Kept}
 use Rattle.lab_copy.proofs.ReadLemmas.{record_reads, when_known, no_header, bad_header, begun_left, at_end, bad_row, taken_left, taken_fault, rows_begun, rows_end}
 
 -- a fault that says nothing of a copy
-pub nothing_known : (known : Option (List ℕ)) (fault : CheckFault) → IsNoFlaw fault
+pub nothing_known : (known : Option (List ℕ)) (fault : CopyFault) → IsNoFlaw fault
     → IfSome known (λ bytes. IsAnswer (verdict (csv_rows_of bytes)) (Err fault))
 nothing_known known (Flawed _) none = absurd none
 nothing_known None Read none = tt
@@ -50,7 +50,7 @@ module _ {R : Type 0} (rem : R → Option (List ℕ)) (known : Option (List ℕ)
       bad_header bytes (reader_state new) (source_of rem new) fields
       (rw (state, source ∙ ap (option_map strip_bom) is) at (record_reads rem old new true fields config read)) bad)
 
-  pub first_good : ReadRecord rem old new true fields → is_header fields ≡ true → (result : Result Counts CheckFault)
+  pub first_good : ReadRecord rem old new true fields → is_header fields ≡ true → (result : Result Counts CopyFault)
       → AnswersRest (reader_state new) (source_of rem new) result
       → IfSome known (λ bytes. IsAnswer (verdict (csv_rows_of bytes)) result)
   first_good read good result answers =
@@ -58,7 +58,7 @@ module _ {R : Type 0} (rem : R → Option (List ℕ)) (known : Option (List ℕ)
       (begun_left bytes (reader_state new) (source_of rem new) fields
       (rw (state, source ∙ ap (option_map strip_bom) is) at (record_reads rem old new true fields config read)) good))
 
-  pub first_rows : ReadRecord rem old new true fields → (result : Result Counts CheckFault)
+  pub first_rows : ReadRecord rem old new true fields → (result : Result Counts CopyFault)
       → ((total : ℕ) → AreRows total 2 (reader_state new) (source_of rem new) → OnOk result (total ≤ most_rows))
       → IfSome known (λ bytes. OnOk result (length (csv_rows_of bytes) ≤ most_rows))
   first_rows read result few =
@@ -71,7 +71,7 @@ module _ {R : Type 0} (rem : R → Option (List ℕ)) (known : Option (List ℕ)
 module _ {R : Type 0} (rem : R → Option (List ℕ)) (found : Result Counts Flaw) (old new : Reader R) (fields : List (List ℕ))
     (kept : Kept) (row : ℕ) (config : reader_config old ≡ default_config)
     (left : IsLeftOf found kept row (reader_state old) (source_of rem old)) where
-  pub next_none : ReadRecord rem old new false fields → (result : Result Counts CheckFault) → IsAnswer (verdict_kept kept) result
+  pub next_none : ReadRecord rem old new false fields → (result : Result Counts CopyFault) → IsAnswer (verdict_kept kept) result
       → IsAnswer found result
   next_none read result answer =
       subst (λ one. IsAnswer one result)
@@ -95,7 +95,7 @@ module _ {R : Type 0} (rem : R → Option (List ℕ)) (found : Result Counts Fla
           taken_left found kept row (reader_state old) (reader_state new) (source_of rem old) (source_of rem new) fields left
           (record_reads rem old new true fields config read) line is_line more takes
 
-      pub next_fault : (more : Kept) (fault : CheckFault)
+      pub next_fault : (more : Kept) (fault : CopyFault)
           → ((lines : List Line) → row ≡ length lines + 2 → IsAt kept lines → IsTaken lines line more (Err fault))
           → IsAnswer found (Err fault)
       next_fault more fault takes =
@@ -105,7 +105,7 @@ module _ {R : Type 0} (rem : R → Option (List ℕ)) (found : Result Counts Fla
 -- the rows have ended, before so many were read
 pub few_rows : {R : Type 0} (rem : R → Option (List ℕ)) (old new : Reader R) (fields : List (List ℕ)) (total row : ℕ)
     → reader_config old ≡ default_config → AreRows total row (reader_state old) (source_of rem old)
-    → ReadRecord rem old new false fields → row < most_rows + 2 → (result : Result Counts CheckFault) → OnOk result (total ≤ most_rows)
+    → ReadRecord rem old new false fields → row < most_rows + 2 → (result : Result Counts CopyFault) → OnOk result (total ≤ most_rows)
 few_rows rem old new fields total row config rows read within (Ok _) =
     let all = rows_end total row (reader_state old) (reader_state new) (source_of rem old) (source_of rem new) fields rows
     (record_reads rem old new false fields config read) in
@@ -113,7 +113,7 @@ few_rows rem old new fields total row config rows read within (Ok _) =
 few_rows rem old new fields total row config rows read within (Err _) = tt
 
 -- a fault that says nothing of a copy
-pub answers_nothing : (found : Result Counts Flaw) (fault : CheckFault) → IsNoFlaw fault → IsAnswer found (Err fault)
+pub answers_nothing : (found : Result Counts Flaw) (fault : CopyFault) → IsNoFlaw fault → IsAnswer found (Err fault)
 answers_nothing found (Flawed _) none = absurd none
 answers_nothing found Read none = tt
 answers_nothing found (Memory _) none = tt

@@ -21,7 +21,7 @@ use Rattle.lab_copy.specs.Faults.{IsAnswer}
 use Rattle.lab_copy.specs.Fronts.{SoFar, after, done_by, front, is_too_long, mark_after, most_bytes, most_fields, row_begun, stepped, text_begun}
 use Rattle.lab_copy.proofs.FrontWords.{front_of}
 use Rattle.lab_copy.specs.Left.{IsEnough}
-use Rattle.lab_copy.specs.declared.faults.CheckFault.{CheckFault}
+use Rattle.lab_copy.specs.declared.faults.CopyFault.{CopyFault}
 use Rattle.lab_copy.proofs.LongLemmas.{HasLong, IsLong, no_header, no_line}
 use Rattle.lab_copy.proofs.ReadLemmas.{copy_step, field_step, inside_step, none_left, nothing_left, quote_step, record_step, return_step, shorter, some_left}
 
@@ -574,14 +574,14 @@ fronts_of bytes =
     subst (λ part. AreFront (csv_rows_of bytes) (records_from default_config (length part + 1) st.StartRecord part)) (sym (stripped bytes))
     (fronts (length xs) st.StartRecord xs (length xs + 1) (length (front row_begun xs) + 1) (omega arith) enough enough_less)
 
-pub answers_whole : (known : Option (List ℕ)) (result : Result Counts CheckFault)
+pub answers_whole : (known : Option (List ℕ)) (result : Result Counts CopyFault)
     → IfSome (option_map front_of known) (λ bytes. IsAnswer (verdict (csv_rows_of bytes)) result)
     → IfSome known (λ bytes. IsAnswer (verdict (csv_rows_of bytes)) result)
 answers_whole None result answers = tt
 answers_whole (Some bytes) result answers =
     subst (λ found. IsAnswer found result) (sym (same_verdict (csv_rows_of bytes) (csv_rows_of (front_of bytes)) (fronts_of bytes))) answers
 
-pub rows_whole : (known : Option (List ℕ)) (result : Result Counts CheckFault)
+pub rows_whole : (known : Option (List ℕ)) (result : Result Counts CopyFault)
     → IfSome (option_map front_of known) (λ bytes. IsAnswer (verdict (csv_rows_of bytes)) result)
     → IfSome (option_map front_of known) (λ bytes. OnOk result (length (csv_rows_of bytes) ≤ most_rows))
     → IfSome known (λ bytes. OnOk result (length (csv_rows_of bytes) ≤ most_rows))

@@ -28,8 +28,8 @@ use Rattle.lab_copy.specs.Current.{hand_of, amendment_by, amendment_behind, begu
 use Rattle.lab_copy_lines.specs.Kinds.{kind_of, may_come_after, is_end_kind}
 use Rattle.lab_copy.specs.Kept.{is_version_behind, has_kept_numbers, may_come, is_in_place_by, is_in_place_kept, flaw_of_signature_kept, flaw_of_version_kept, flaw_kept, copy_with, about_with, version_with, kept_with, verdict_kept, edition_by, first_copy, ends_in_version, hand_at, kept_none, kept_of, BeginsWithCopy, HasVersionRows, IsAt, IsKeepFault, IsTaken, MayBegin, MayRunOut, is_kept_made, is_text_made}
 use Rattle.lab_copy.proofs.KeptWords.{current_begun}
-use Rattle.lab_copy.specs.declared.faults.CheckFault.{CheckFault}
-use Rattle.lab_copy.specs.declared.faults.CheckFault.TheVariants.{Flawed, Read, Memory}
+use Rattle.lab_copy.specs.declared.faults.CopyFault.{CopyFault}
+use Rattle.lab_copy.specs.declared.faults.CopyFault.TheVariants.{Flawed, Read, Memory}
 use Rattle.lab_copy.specs.declared.current.CurrentVersion.{CurrentVersion}
 use Rattle.lab_copy.specs.declared.kept.Kept.{Kept}
 use Rattle.lab_copy_rows.proofs.ListLemmas.{some_same, never, no_some, last_push, last_cons, keep_push, skip_push, last_map, before_here, after_here, before_past, after_past}
@@ -822,7 +822,7 @@ few lines (End line) = omega arith
 few_kept : (kept : Kept) (lines : List Line) (line : Line) → IsAt kept lines → count_of line kept.counts ≤ length lines
 few_kept kept lines line is = subst (λ (one : Kept). count_of line one.counts ≤ length lines) (sym is.kept_is) (few lines line)
 
-kept_fault : (row : ℕ) (kept more : Kept) (lines : List Line) (line : Line) (fault : CheckFault) → row < 2 ^ 64
+kept_fault : (row : ℕ) (kept more : Kept) (lines : List Line) (line : Line) (fault : CopyFault) → row < 2 ^ 64
     → row ≡ length lines + 2 → IsAt kept lines → is_in_place lines line ≡ true → flaw_of_line lines line ≡ None
     → IsKeepFault kept line fault → IsTaken lines line more (Err fault)
 kept_fault row kept more lines line (Flawed _) held row_is is place none why = absurd why
@@ -831,7 +831,7 @@ kept_fault row kept more lines line Read held row_is is place none why =
 kept_fault row kept more lines line (Memory _) held row_is is place none why = keeping kept lines line place none why
 
 -- what keeping a line comes to
-pub taken_by : (row : ℕ) (kept more : Kept) (lines : List Line) (line : Line) (result : Result (Unit {0}) CheckFault)
+pub taken_by : (row : ℕ) (kept more : Kept) (lines : List Line) (line : Line) (result : Result (Unit {0}) CopyFault)
     → row < 2 ^ 64 → row ≡ length lines + 2 → IsAt kept lines → is_in_place_kept kept line ≡ true → IsReasoned line
     → flaw_kept row kept line ≡ None → OnOk result (more ≡ kept_with row kept line) → IfErr result (IsKeepFault kept line)
     → IsTaken lines line more result

@@ -17,7 +17,7 @@ use Rattle.lab_copy_rows.specs.Reading.{line_of, copy_line, record_line, version
 use Rattle.lab_copy_rows.specs.declared.flaws.Flaw.TheVariants.{BadRow, NoEnd, Digest}
 use Rattle.lab_forms_texts.specs.declared.refusals.Fault.TheVariants as row_fault
 use Rattle.lab_copy.specs.Checks.{fault_at, csv_rows_of}
-use Rattle.lab_copy.specs.declared.faults.CheckFault.TheVariants.{Flawed, Memory}
+use Rattle.lab_copy.specs.declared.faults.CopyFault.TheVariants.{Flawed, Memory}
 use Rattle.lab_seal_versions.specs.declared.versions.Format.TheVariants as format
 use Rattle.lab_seal_versions.specs.declared.seals.Meaning.TheVariants.{Authorship}
 use Rattle.lab_seal_versions.specs.declared.states.State.TheVariants.{Signed}

@@ -7,7 +7,7 @@ use Rattle.lab_copy_rows.specs.declared.flaws.Flaw.{Flaw}
 use Rattle.lab_copy_rows.specs.declared.flaws.Flaw.TheVariants.{Digest, OnePerson}
 use Rattle.lab_copy_rows.specs.declared.lines.Counts.{Counts}
 use Rattle.lab_copy.specs.Faults.{IsAnswer, fault_number, fault_word}
-use Rattle.lab_copy.specs.declared.faults.CheckFault.TheVariants.{Flawed, Read, Memory}
+use Rattle.lab_copy.specs.declared.faults.CopyFault.TheVariants.{Flawed, Read, Memory}
 
 -- a reader's fault has a word and no number
 pub known_faults : (fault : OutOfMemory)

@@ -21,8 +21,8 @@ use Rattle.lab_copy.specs.Checks.{csv_rows_of}
 use Rattle.lab_copy_lines.specs.Lines.{line_at}
 use Rattle.lab_copy.specs.Kept.{IsAt, IsTaken, edition_by, kept_none, verdict_kept}
 use Rattle.lab_copy.specs.Left.{AreRows, IsEnough, IsLeftOf}
-use Rattle.lab_copy.specs.declared.faults.CheckFault.{CheckFault}
-use Rattle.lab_copy.specs.declared.faults.CheckFault.TheVariants.{Flawed, Read, Memory}
+use Rattle.lab_copy.specs.declared.faults.CopyFault.{CopyFault}
+use Rattle.lab_copy.specs.declared.faults.CopyFault.TheVariants.{Flawed, Read, Memory}
 use Rattle.lab_copy.specs.declared.kept.Kept.{Kept}
 use Rattle.lab_copy.proofs.KeptLemmas.{at_none, edition_is, verdict_at_end}
 use Rattle.lab_copy_rows.proofs.ListLemmas.{never, no_some, some_same}
@@ -346,7 +346,7 @@ module _ (found : Result Counts Flaw) (kept : Kept) (row : ℕ) (before after : 
             },
           )
 
-      pub taken_fault : (more : Kept) (fault : CheckFault)
+      pub taken_fault : (more : Kept) (fault : CopyFault)
           → ((lines : List Line) → row ≡ length lines + 2 → IsAt kept lines → IsTaken lines line more (Err fault))
           → IsAnswer found (Err fault)
       taken_fault more (Flawed told) takes = found_by ∙ ap (verdict_or later) (takes behind.lines behind.row_is behind.kept_at)

@@ -5,8 +5,8 @@ use Rattle.lab_copy_rows.specs.declared.flaws.Flaw.TheVariants as flaw
 use Rattle.lab_forms_texts.specs.declared.refusals.Fault.{Fault}
 use Rattle.lab_forms_texts.specs.declared.refusals.Fault.TheVariants as row_fault
 use Rattle.lab_copy_lines.specs.declared.faults.BadRow.{BadRow}
-use Rattle.lab_copy.specs.declared.faults.CheckFault.{CheckFault}
-use Rattle.lab_copy.specs.declared.faults.CheckFault.TheVariants.{Flawed, Memory}
+use Rattle.lab_copy.specs.declared.faults.CopyFault.{CopyFault}
+use Rattle.lab_copy.specs.declared.faults.CopyFault.TheVariants.{Flawed, Memory}
 
 -- the rows of a text of CSV (RFC 4180), behind a byte order mark that it may begin with; the kit's
 -- reader defines them
@@ -22,6 +22,6 @@ abbrev pub most_asks : ℕ
 most_asks = 1000000000000000
 
 -- the fault of a check whose row wasn't read
-abbrev pub fault_at : ℕ → Fault BadRow → CheckFault
+abbrev pub fault_at : ℕ → Fault BadRow → CopyFault
 fault_at row (row_fault.Refused _) = Flawed (flaw.BadRow row)
 fault_at row row_fault.Memory = Memory (record {})

@@ -21,8 +21,8 @@ use Rattle.lab_copy_rows.specs.declared.lines.VersionLine.{VersionLine}
 use Rattle.lab_copy.specs.Places.{count_of, counts_with, is_first_line}
 use Rattle.lab_copy.specs.Current.{hand_of, amendment_behind, begun, with_entry, with_signature, has_numbers, is_next, flaw_of_current}
 use Rattle.lab_copy.specs.declared.current.CurrentVersion.{CurrentVersion}
-use Rattle.lab_copy.specs.declared.faults.CheckFault.{CheckFault}
-use Rattle.lab_copy.specs.declared.faults.CheckFault.TheVariants.{Flawed, Read, Memory}
+use Rattle.lab_copy.specs.declared.faults.CopyFault.{CopyFault}
+use Rattle.lab_copy.specs.declared.faults.CopyFault.TheVariants.{Flawed, Read, Memory}
 use Rattle.lab_copy.specs.declared.kept.Kept.{Kept}
 use Rattle.lab_copy_lines.specs.Kinds.{kind_of, may_come_after, is_end_kind}
 use Rattle.lab_copy_lines.specs.declared.kinds.LineKind.{LineKind}
@@ -209,14 +209,14 @@ MayRunOut lines line = (is_in_place lines line ≡ true) × (ends_in_version lin
 
 -- the fault of keeping a line tells no flaw: there are more lines of its kind than any copy has, or
 -- memory ran out where something is made
-abbrev pub IsKeepFault : Kept → Line → CheckFault → Type 0
+abbrev pub IsKeepFault : Kept → Line → CopyFault → Type 0
 IsKeepFault kept line (Flawed _) = ⊥
 IsKeepFault kept line Read = ¬ (count_of line kept.counts + 1 < 2 ^ 64)
 IsKeepFault kept line (Memory _) = IsTrue (is_kept_made kept.about kept.version line)
 
 -- a line that shows no flaw was taken, and else its flaw was told; nothing is read here, and memory
 -- runs out only where something is made
-abbrev pub IsTaken : List Line → Line → Kept → Result (Unit {0}) CheckFault → Type 0
+abbrev pub IsTaken : List Line → Line → Kept → Result (Unit {0}) CopyFault → Type 0
 IsTaken lines line kept (Ok _) = (flaw_of_line lines line ≡ None) × IsAt kept (lines ++ (line ∷ []))
 IsTaken lines line kept (Err (Flawed told)) = flaw_of_line lines line ≡ Some told
 IsTaken lines line kept (Err Read) = ⊥
@@ -224,7 +224,7 @@ IsTaken lines line kept (Err (Memory _)) = MayRunOut lines line
 
 -- at the end of the input nothing is read, and memory runs out only where there is a version at
 -- being read, whose text is made
-abbrev pub IsEndFault : Kept → CheckFault → Type 0
+abbrev pub IsEndFault : Kept → CopyFault → Type 0
 IsEndFault kept (Flawed _) = Unit {0}
 IsEndFault kept Read = ⊥
 IsEndFault kept (Memory _) = IsSome kept.version

@@ -10,7 +10,7 @@ use Rattle.lab_copy_rows.specs.declared.lines.Counts.{Counts}
 use Rattle.lab_copy_rows.specs.declared.lines.Line.{Line}
 use Rattle.lab_copy.specs.Faults.{IsAnswer}
 use Rattle.lab_copy.specs.Kept.{IsAt, kept_none}
-use Rattle.lab_copy.specs.declared.faults.CheckFault.{CheckFault}
+use Rattle.lab_copy.specs.declared.faults.CopyFault.{CopyFault}
 use Rattle.lab_copy.specs.declared.kept.Kept.{Kept}
 
 -- no record is begun, and there are no more records than this in the bytes
@@ -40,6 +40,6 @@ AreRows total row state source =
     × (total + 1 ≡ row + length (records_from default_config fuel state bytes))
 
 -- what the rows behind the header leave to find is answered
-abbrev pub AnswersRest : State → Option (List ℕ) → Result Counts CheckFault → Type 0
+abbrev pub AnswersRest : State → Option (List ℕ) → Result Counts CopyFault → Type 0
 AnswersRest state source result =
     (found : Result Counts Flaw) → IsLeftOf found kept_none 2 state source → IsAnswer found result

@@ -10,7 +10,7 @@ ghost use Rattle.lab_copy.specs.Checks.{fault_at, most_asks, most_rows, csv_rows
 ghost use Rattle.lab_copy.specs.Kept.{kept_none};
 ghost use Rattle.lab_copy.specs.Left.{AnswersRest, AreRows};
 
-use crate::CheckFault;
+use crate::CopyFault;
 use crate::asks::{AskedReader, Asking, MOST_ASKS};
 use crate::fronts::RowSoFar;
 use crate::kept::Kept;
@@ -32,7 +32,7 @@ const MOST_ROWS: u64 = 1_000_000_000_000;
 /// # Errors
 /// The first flaw of the copy; the reader failed, was asked 1,000,000,000,000,000 times or returned
 /// more than 1,000,000,000,000 rows; or memory ran out.
-pub fn check_copy<R: ByteSource>(alloc: Global, reader: &mut R) -> Result<Counts, CheckFault>
+pub fn check_copy<R: ByteSource>(alloc: Global, reader: &mut R) -> Result<Counts, CopyFault>
     ensures verdict { IfSome (R.remaining reader.old) (λ bytes.
         IsAnswer (verdict (csv_rows_of bytes)) result) }
     ensures rows { IfSome (R.remaining reader.old) (λ bytes.
@@ -47,7 +47,7 @@ pub fn check_copy<R: ByteSource>(alloc: Global, reader: &mut R) -> Result<Counts
 fn check_asking<'a, A: Asking, R: ByteSource>(
     alloc: Global,
     source: &'a mut R,
-) -> (Result<Counts, CheckFault>, &'a mut R)
+) -> (Result<Counts, CopyFault>, &'a mut R)
     requires name { source.ghost_name ≡ A.name }
     requires most { R.asks source.old + most_asks ≤ A.most }
     ensures verdict { IfSome (R.remaining source.old) (λ bytes.
@@ -70,7 +70,7 @@ fn check_asking<'a, A: Asking, R: ByteSource>(
 }
 
 // Checks the rows of a reader from its start.
-fn check_all<R: Read>(alloc: Global, rows: &mut Reader<R>) -> Result<Counts, CheckFault>
+fn check_all<R: Read>(alloc: Global, rows: &mut Reader<R>) -> Result<Counts, CopyFault>
     requires config { reader_config rows.old ≡ default_config }
     requires trim { reader_trim rows.old ≡ trim.None }
     requires ready { Ready rows.old }
@@ -84,10 +84,10 @@ fn check_all<R: Read>(alloc: Global, rows: &mut Reader<R>) -> Result<Counts, Che
 {
     let mut row = ByteRecord::new(alloc);
     if !read_row(rows, &mut row)? {
-        return Err(CheckFault::Flawed(Flaw::NoEnd));
+        return Err(CopyFault::Flawed(Flaw::NoEnd));
     }
     if !is_header(&row) {
-        return Err(CheckFault::Flawed(Flaw::BadRow(1)));
+        return Err(CopyFault::Flawed(Flaw::BadRow(1)));
     }
     let mut kept = Kept::none();
     let answer = check_rows(alloc, rows, &mut row, &mut kept);
@@ -115,7 +115,7 @@ fn check_rows<R: Read>(
     rows: &mut Reader<R>,
     row: &mut ByteRecord,
     kept: &mut Kept,
-) -> Result<Counts, CheckFault>
+) -> Result<Counts, CopyFault>
     requires config { reader_config rows.old ≡ default_config }
     requires trim { reader_trim rows.old ≡ trim.None }
     requires ready { Ready rows.old }
@@ -134,11 +134,11 @@ fn check_rows<R: Read>(
             Err(fault) => return Err(fault_at(number, fault)),
         }
     }
-    Err(CheckFault::Read)
+    Err(CopyFault::Read)
 }
 
 // Reads the next row, if there is one.
-fn read_row<R: Read>(rows: &mut Reader<R>, row: &mut ByteRecord) -> Result<bool, CheckFault>
+fn read_row<R: Read>(rows: &mut Reader<R>, row: &mut ByteRecord) -> Result<bool, CopyFault>
     ensures reads { IfOk result (λ found. (reader_trim rows.old ≡ trim.None) → Ready rows.old
         → ReadRecord R.remaining rows.old rows.new found (fields_of row.new)) }
     ensures ready { (reader_trim rows.old ≡ trim.None) → OnOk result (took_first rows.new ≡ true) }
@@ -147,18 +147,18 @@ fn read_row<R: Read>(rows: &mut Reader<R>, row: &mut ByteRecord) -> Result<bool,
     match rows.read_byte_record(row) {
         Ok(found) => Ok(found),
         Err(error) => match error.kind() {
-            ErrorKind::OutOfMemory => Err(CheckFault::Memory(OutOfMemory)),
-            _ => Err(CheckFault::Read),
+            ErrorKind::OutOfMemory => Err(CopyFault::Memory(OutOfMemory)),
+            _ => Err(CopyFault::Read),
         },
     }
 }
 
 // The fault of the check for a fault of a row.
-fn fault_at(row: u64, fault: RowFault) -> CheckFault
+fn fault_at(row: u64, fault: RowFault) -> CopyFault
     ensures { result ≡ fault_at row fault }
 {
     match fault {
-        RowFault::Refused(_) => CheckFault::Flawed(Flaw::BadRow(row)),
-        RowFault::Memory => CheckFault::Memory(OutOfMemory),
+        RowFault::Refused(_) => CopyFault::Flawed(Flaw::BadRow(row)),
+        RowFault::Memory => CopyFault::Memory(OutOfMemory),
     }
 }

@@ -8,7 +8,7 @@ use thiserror::Error;
 
 /// Why a copy wasn't found sound.
 #[derive(Clone, Copy, Debug, PartialEq, Eq, Error)]
-pub enum CheckFault {
+pub enum CopyFault {
     /// The copy has a flaw; this is the first one.
     Flawed(Flaw),
     /// The reader failed, was asked 1,000,000,000,000,000 times, or its rows didn't end
@@ -18,15 +18,15 @@ pub enum CheckFault {
     Memory(OutOfMemory),
 }
 
-impl CheckFault {
+impl CopyFault {
     /// The number of the fault; `None` if the reader failed, since no reply can state that.
     pub fn number(&self) -> Option<u32>
         ensures { result ≡ fault_number self.now }
     {
         match self {
-            CheckFault::Flawed(flaw) => Some(flaw.number()),
-            CheckFault::Read => None,
-            CheckFault::Memory(fault) => fault.number(),
+            CopyFault::Flawed(flaw) => Some(flaw.number()),
+            CopyFault::Read => None,
+            CopyFault::Memory(fault) => fault.number(),
         }
     }
 
@@ -35,14 +35,14 @@ impl CheckFault {
         ensures { result.now ≡ fault_word self.now }
     {
         match self {
-            CheckFault::Flawed(flaw) => flaw.word(),
-            CheckFault::Read => "read_fault",
-            CheckFault::Memory(fault) => fault.word(),
+            CopyFault::Flawed(flaw) => flaw.word(),
+            CopyFault::Read => "read_fault",
+            CopyFault::Memory(fault) => fault.word(),
         }
     }
 }
 
-impl fmt::Display for CheckFault {
+impl fmt::Display for CopyFault {
     ghost use Rattle.std.specs.Prelude.{Some};
     ghost use Rattle.lab_copy.specs.Faults.{fault_word};
 
@@ -53,13 +53,13 @@ impl fmt::Display for CheckFault {
     }
 }
 
-impl From<OutOfMemory> for CheckFault {
+impl From<OutOfMemory> for CopyFault {
     ghost use Rattle.std.specs.Prelude.{◌≡◌};
-    ghost use Rattle.lab_copy.specs.declared.faults.CheckFault.TheVariants.{Memory};
+    ghost use Rattle.lab_copy.specs.declared.faults.CopyFault.TheVariants.{Memory};
 
     ghost from_gives = { λ fault e. e ≡ Memory fault };
 
-    fn from(fault: OutOfMemory) -> CheckFault {
-        CheckFault::Memory(fault)
+    fn from(fault: OutOfMemory) -> CopyFault {
+        CopyFault::Memory(fault)
     }
 }

@@ -12,7 +12,7 @@ ghost use Rattle.lab_copy.specs.declared.current.CurrentVersion.{CurrentVersion}
 ghost use Rattle.lab_copy_lines.specs.Kinds.{is_end_kind};
 
 use crate::{
-    CheckFault, CurrentVersion, are_same_counts, begin, counts_with, enter, is_first_line,
+    CopyFault, CurrentVersion, are_same_counts, begin, counts_with, enter, is_first_line,
     is_first_version, lab_of, sign, was_asked,
 };
 use lab_copy_lines::LineKind;
@@ -79,18 +79,18 @@ impl Kept {
     ///
     /// # Errors
     /// The first flaw of the copy, too many lines of one kind, or memory ran out.
-    pub fn take(&mut self, alloc: Global, row: u64, line: Line) -> Result<(), CheckFault>
+    pub fn take(&mut self, alloc: Global, row: u64, line: Line) -> Result<(), CopyFault>
         requires { IsReasoned line }
         ensures { (lines : List Line) → row ≡ length lines + 2 → IsAt self.old lines
             → IsTaken lines line self.new result }
     {
         if !self.is_in_place(&line) {
-            return Err(CheckFault::Flawed(Flaw::Order(row)));
+            return Err(CopyFault::Flawed(Flaw::Order(row)));
         }
         match self.check(alloc, row, &line) {
             Ok(None) => self.keep(alloc, row, line),
-            Ok(Some(flaw)) => Err(CheckFault::Flawed(flaw)),
-            Err(fault) => Err(CheckFault::Memory(fault)),
+            Ok(Some(flaw)) => Err(CopyFault::Flawed(flaw)),
+            Err(fault) => Err(CopyFault::Memory(fault)),
         }
     }
 
@@ -98,7 +98,7 @@ impl Kept {
     ///
     /// # Errors
     /// The first flaw of the copy, or memory ran out.
-    pub fn finish(&self, alloc: Global) -> Result<Counts, CheckFault>
+    pub fn finish(&self, alloc: Global) -> Result<Counts, CopyFault>
         ensures value { IsAnswer (verdict_kept self.now) result }
         ensures fault { IfErr result (IsEndFault self.now) }
     {
@@ -106,9 +106,9 @@ impl Kept {
             return Ok(self.counts);
         }
         match self.check_version(alloc) {
-            Ok(None) => Err(CheckFault::Flawed(Flaw::NoEnd)),
-            Ok(Some(flaw)) => Err(CheckFault::Flawed(flaw)),
-            Err(fault) => Err(CheckFault::Memory(fault)),
+            Ok(None) => Err(CopyFault::Flawed(Flaw::NoEnd)),
+            Ok(Some(flaw)) => Err(CopyFault::Flawed(flaw)),
+            Err(fault) => Err(CopyFault::Memory(fault)),
         }
     }
 
@@ -252,13 +252,13 @@ impl Kept {
     // ---- what is kept of a line
 
     // Keeps the parts of the line with which the next lines are compared.
-    fn keep(&mut self, alloc: Global, row: u64, line: Line) -> Result<(), CheckFault>
+    fn keep(&mut self, alloc: Global, row: u64, line: Line) -> Result<(), CopyFault>
         requires { MayBegin self.old.version line }
         ensures kept { OnOk result (self.new ≡ kept_with row self.old line) }
         ensures fault { IfErr result (IsKeepFault self.old line) }
     {
         let Some(counts) = counts_with(&line, self.counts) else {
-            return Err(CheckFault::Read);
+            return Err(CopyFault::Read);
         };
         self.counts = counts;
         self.last = Some(LineKind::of(&line));

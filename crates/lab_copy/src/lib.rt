@@ -12,7 +12,7 @@ mod places;
 
 pub use checks::check_copy;
 pub use current::{CurrentVersion, begin, enter, sign};
-pub use faults::CheckFault;
+pub use faults::CopyFault;
 pub use lab_copy_rows::{
     CopyLine, CopyOut, CopyOutFault, CopyRow, Counts, Digest, Edition, EndLine, EntryLine,
     EntryRow, Flaw, Format, Key, LabCode, Line, Meaning, Moment, Name, Note, Ordinal, OutOfMemory,

@@ -20,7 +20,7 @@ pub use lab_forms_texts::{
 };
 pub use lab_people_access::{
     Ask, Closing, Failure, Opened, Password, PeopleFault, PeopleRefusal, Person, ROUNDS, Role,
-    Roles, Rule, Session, are_rounds, attempt, attempt_signing, live, open_session, permission,
+    Roles, Rule, Session, allowed, are_rounds, attempt, attempt_signing, live, open_session,
 };
 pub use lab_seal_hashes::{Digest, Half, Token, Verifier, VerifierParts, founder_salts, salt};
 pub use password_laws::{

@@ -18,7 +18,7 @@ pub use attempts::{attempt, attempt_signing};
 pub use openings::{Opened, open_session};
 pub use passwords::{OLD_ROUNDS, Password, ROUNDS, are_rounds};
 pub use persons::{Ask, PERSONS_LIMIT, Person};
-pub use policy::{Rule, permission};
+pub use policy::{Rule, allowed};
 pub use refusals::{Failure, PeopleFault, PeopleRefusal};
 pub use roles::{Role, Roles};
 pub use sessions::{Closing, Session, live};

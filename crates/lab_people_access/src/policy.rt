@@ -130,7 +130,7 @@ impl Rule {
 /// `PasswordDue` if the person's password is due and the rule refuses until it is changed; else
 /// `RoleWanted` if the person has none of the roles of the rule.
 #[tactic(auto, unfolding(crate::specs::Policy::denial))]
-pub fn permission(person: &Person, rule: Rule, tick: &Tick) -> Result<(), PeopleRefusal>
+pub fn allowed(person: &Person, rule: Rule, tick: &Tick) -> Result<(), PeopleRefusal>
     ensures permitted { OnOk result (denial person.now rule tick.now.moment ≡ None) }
     ensures refused { IfErr result (λ refusal.
         denial person.now rule tick.now.moment ≡ Some refusal) }

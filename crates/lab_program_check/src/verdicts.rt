@@ -6,7 +6,7 @@ ghost use Rattle.lab_program_check.specs.declared.faults.StopFault.TheVariants.{
 ghost use Rattle.lab_program_check.specs.Verdicts.{good_line, bad_line, status_of, IsFlaw, IsFound, IsVerdictTold, IsCheck};
 
 use crate::faults::StopFault;
-use lab_copy::{CheckFault, Counts, Flaw, OutOfMemory, check_copy};
+use lab_copy::{CopyFault, Counts, Flaw, OutOfMemory, check_copy};
 use lab_forms_streams::{WriteFault, write_whole};
 use std::alloc::Global;
 use std::io::{Read, Write};
@@ -65,13 +65,13 @@ fn look_over<R: Read + Drop>(alloc: Global, input: R) -> Result<Found, StopFault
             status: 0,
             flaw: None,
         }),
-        Err(CheckFault::Flawed(flaw)) => Ok(Found {
+        Err(CopyFault::Flawed(flaw)) => Ok(Found {
             line: bad_line(alloc, flaw)?,
             status: 1,
             flaw: Some(flaw),
         }),
-        Err(CheckFault::Read) => Err(StopFault::Read),
-        Err(CheckFault::Memory(_)) => Err(StopFault::Memory),
+        Err(CopyFault::Read) => Err(StopFault::Read),
+        Err(CopyFault::Memory(_)) => Err(StopFault::Memory),
     }
 }
 

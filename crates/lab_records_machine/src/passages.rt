@@ -4,7 +4,7 @@ ghost use Rattle.lab_people_access.specs.Policy.{denial};
 ghost use Rattle.lab_records_machine.specs.Machine.{passage, allowed_passage};
 
 use lab_forms_texts::Tick;
-use lab_people_access::{Person, Rule, Session, live, permission};
+use lab_people_access::{Person, Rule, Session, allowed, live};
 use lab_records_rules::Refusal;
 
 /// How far a command in a session gets.
@@ -37,7 +37,7 @@ pub fn pass(session: Option<Session>, caller: Option<Person>, tick: &Tick, rule:
 fn pass_person(session: Session, caller: Person, tick: &Tick, rule: Rule) -> Passage
     ensures { result ≡ allowed_passage session caller (denial caller rule tick.now.moment) }
 {
-    match permission(&caller, rule, tick) {
+    match allowed(&caller, rule, tick) {
         Ok(()) => Passage::Passes(session, caller),
         Err(refusal) => Passage::Barred(session, Refusal::People(refusal)),
     }
