@@ -18,11 +18,11 @@ use Rattle.lab_people_access.specs.declared.refusals.PeopleRefusal.{PeopleRefusa
 use Rattle.lab_people_access.specs.declared.refusals.PeopleRefusal.TheVariants.{RandomRepeated, CodeTaken, LabFull, OwnIssue, SamePerson, NoSuchPerson}
 use Rattle.lab_people_access.specs.Refusals.{failure_person, failure_closing}
 use Rattle.lab_people_access.specs.Passwords.{is_set, accepts}
-use Rattle.lab_people_access.specs.Persons.{person_of, is_locked, unlocked_person, stands, standing_ask}
+use Rattle.lab_people_access.specs.Persons.{newcomer, person_of, is_locked, unlocked_person, stands, standing_ask}
 use Rattle.lab_people_access.specs.Sessions.{session_of, closed_session, sessions_after}
 use Rattle.lab_people_access.specs.Attempts.{failure_count, failures_to_lock, counted_person, locked_person, failure_of, attempt_by, attempt_of, signing_attempt}
 use Rattle.lab_people_access.specs.Openings.{new_opening, numbered_opening, opening_by, opening, token_digest}
-use Rattle.lab_people.specs.Accounts.{newcomer, enrolling, person_meant, meant_then, retiring}
+use Rattle.lab_people.specs.Accounts.{enrolling, person_meant, meant_then, retiring}
 use Rattle.lab_people.specs.Issues.{with_one_time_word, confirming_of}
 use Rattle.lab_people.specs.declared.accounts.Effect.{Effect}
 use Rattle.lab_people.specs.declared.issues.Issued.{Issued}

@@ -4,7 +4,6 @@ use Rattle.std.specs.Prelude.{ℕ, Bool, true, false, not, nat_le, List, Option,
 use Rattle.lab_forms_texts.specs.declared.tick.Tick.{Tick}
 use Rattle.lab_seal_hashes.specs.Words.{salt_of}
 use Rattle.lab_people_access.specs.declared.roles.Roles.{Roles}
-use Rattle.lab_people_access.specs.declared.passwords.Password.TheVariants.{Unset}
 use Rattle.lab_people_access.specs.declared.persons.Person.{Person}
 use Rattle.lab_people_access.specs.declared.sessions.Session.{Session}
 use Rattle.lab_people_access.specs.declared.sessions.Closing.TheVariants.{Nothing, All, Others}
@@ -15,7 +14,7 @@ use Rattle.lab_people_access.specs.declared.refusals.PeopleRefusal.{PeopleRefusa
 use Rattle.lab_people_access.specs.declared.refusals.PeopleRefusal.TheVariants.{BadPassword, SamePassword, CodeTaken, LabFull, OwnIssue, NoSuchPerson}
 use Rattle.lab_people_access.specs.Attempts.{attempt_of}
 use Rattle.lab_people_access.specs.Passwords.{is_password, chosen_password}
-use Rattle.lab_people_access.specs.Persons.{person_limit, unlocked_person}
+use Rattle.lab_people_access.specs.Persons.{newcomer, person_limit, unlocked_person}
 use Rattle.lab_people.specs.declared.accounts.PasswordChanged.{PasswordChanged}
 use Rattle.lab_people.specs.declared.accounts.Effect.{Effect}
 
@@ -46,19 +45,6 @@ changing person session old new tick =
     changing_by (attempt_of (Some person) old tick.moment) session old new tick
 
 -- Enrolment.
-
--- a person as enrolled, with no password yet
-abbrev pub newcomer : List ℕ → List ℕ → Roles → Person
-newcomer code name roles = record {
-  code = code;
-  name = name;
-  roles = roles;
-  retired = false;
-  failures = 0;
-  locked = None;
-  password = Unset;
-  ask = None;
-}
 
 -- a person is enrolled, where somebody has or had the code or nobody, and where the laboratory has
 -- so many persons

@@ -82,16 +82,7 @@ pub fn enrol(
     if persons >= PERSONS_LIMIT {
         return Err(PeopleRefusal::LabFull);
     }
-    Ok(Person {
-        code,
-        name,
-        roles,
-        retired: false,
-        failures: 0,
-        locked: None,
-        password: Password::Unset,
-        ask: None,
-    })
+    Ok(Person::newcomer(code, name, roles))
 }
 
 // The person whom a command of the caller names, if that person isn't retired and isn't the caller.

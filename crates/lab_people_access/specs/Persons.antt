@@ -3,9 +3,24 @@
 -- safeguards to prevent unauthorized use of passwords"; the number and the spans of time are this
 -- system's own).
 use Rattle.std.specs.Prelude.{ℕ, ◌-◌, Bool, false, nat_lt, nat_le, List, [], ◌∷◌, Option, Some, None, is_some, bytes_eq, if◌then◌else◌}
+use Rattle.lab_people_access.specs.declared.roles.Roles.{Roles}
+use Rattle.lab_people_access.specs.declared.passwords.Password.TheVariants.{Unset}
 use Rattle.lab_people_access.specs.declared.persons.Person.{Person}
 use Rattle.lab_people_access.specs.declared.persons.Ask.{Ask}
 use Rattle.lab_people_access.specs.declared.persons.TheConstants.{PERSONS_LIMIT, SECONDS_OF_LOCK, SECONDS_OF_ASK}
+
+-- a person as enrolled, with no password yet
+abbrev pub newcomer : List ℕ → List ℕ → Roles → Person
+newcomer code name roles = record {
+  code = code;
+  name = name;
+  roles = roles;
+  retired = false;
+  failures = 0;
+  locked = None;
+  password = Unset;
+  ask = None;
+}
 
 -- the most persons of a laboratory, retired ones too
 abbrev pub person_limit : ℕ

@@ -1,6 +1,6 @@
 //! One person of a laboratory.
 ghost use Rattle.std.specs.Prelude.{◌≡◌, IfOk, option_copied};
-ghost use Rattle.lab_people_access.specs.Persons.{is_locked, unlocked_person, standing_ask};
+ghost use Rattle.lab_people_access.specs.Persons.{newcomer, is_locked, unlocked_person, standing_ask};
 
 use crate::passwords::Password;
 use crate::roles::Roles;
@@ -106,6 +106,23 @@ impl Clone for Ask {
 }
 
 impl Person {
+    /// Returns a person as enrolled: with no password yet, and with nothing that failed, is locked
+    /// or was asked for.
+    pub fn newcomer(code: PersonCode, name: Name, roles: Roles) -> Person
+        ensures { result ≡ newcomer code name roles }
+    {
+        Person {
+            code,
+            name,
+            roles,
+            retired: false,
+            failures: 0,
+            locked: None,
+            password: Password::Unset,
+            ask: None,
+        }
+    }
+
     /// Returns a copy. The only error is that memory ran out.
     ///
     /// # Errors

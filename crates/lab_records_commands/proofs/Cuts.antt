@@ -12,7 +12,8 @@ use Rattle.lab_people_access.specs.declared.refusals.Failure.{Failure}
 use Rattle.lab_people_access.specs.declared.refusals.PeopleRefusal.TheVariants.{LabFull}
 use Rattle.lab_people_access.specs.Attempts.{attempt_of}
 use Rattle.lab_people_access.specs.Openings.{opening, opening_by, numbered_opening}
-use Rattle.lab_people.specs.Accounts.{enrolling, newcomer}
+use Rattle.lab_people_access.specs.Persons.{newcomer}
+use Rattle.lab_people.specs.Accounts.{enrolling}
 
 -- by whether there is a next number
 number_by : (count : ℕ) (few : Bool) → nat_le (count + 1) 1000000000 ≡ few

@@ -18,8 +18,8 @@ use Rattle.lab_people_access.specs.declared.roles.Roles.{Roles}
 use Rattle.lab_people_access.specs.Attempts.{failure_count, failures_to_lock, counted_person, locked_person, attempt_by, attempt_of, is_own_code, signing_attempt}
 use Rattle.lab_people_access.specs.Openings.{token_digest, numbered_opening, opening_by, opening}
 use Rattle.lab_people_access.specs.Passwords.{is_set, accepts, is_password}
-use Rattle.lab_people_access.specs.Persons.{person_of, person_limit, is_locked, unlocked_person}
-use Rattle.lab_people.specs.Accounts.{newcomer, enrolling, setting_roles, retiring, unlocking, changing, changing_by, with_new_password, meant_then}
+use Rattle.lab_people_access.specs.Persons.{newcomer, person_of, person_limit, is_locked, unlocked_person}
+use Rattle.lab_people.specs.Accounts.{enrolling, setting_roles, retiring, unlocking, changing, changing_by, with_new_password, meant_then}
 use Rattle.lab_people.specs.Issues.{asking, confirming}
 use Rattle.lab_people.specs.declared.accounts.Effect.{Effect}
 use Rattle.lab_records_kept.specs.declared.labs.Lab.{Lab}

@@ -11,11 +11,11 @@ use Rattle.lab_people_access.specs.declared.refusals.Failure.{Failure}
 use Rattle.lab_people_access.specs.Attempts.{attempt_of}
 use Rattle.lab_people_access.specs.Openings.{opening, opening_by, numbered_opening, new_opening, token_digest}
 use Rattle.lab_people_access.specs.Sessions.{session_of, touched_session, closed_session, signed_session}
-use Rattle.lab_people.specs.Accounts.{enrolling, newcomer}
+use Rattle.lab_people.specs.Accounts.{enrolling}
 use Rattle.lab_records_kept.specs.declared.labs.Lab.{Lab}
 use Rattle.lab_records_kept.specs.declared.changes.Change.TheVariants.{PersonAdded, SessionAdded, SessionSet}
 use Rattle.lab_records_kept.specs.Changes.{Fits, IsKnown, SameSession}
-use Rattle.lab_people_access.specs.Persons.{person_limit}
+use Rattle.lab_people_access.specs.Persons.{newcomer, person_limit}
 use Rattle.lab_records_kept.specs.Lookups.{person_at, session_at}
 use Rattle.lab_records_laws.proofs.LimitRules.{not_refused, given}
 

@@ -13,7 +13,7 @@ use Rattle.lab_people_access.specs.declared.refusals.Failure.TheVariants.{Counte
 use Rattle.lab_people_access.specs.declared.refusals.PeopleFault.TheVariants.{Refused}
 use Rattle.lab_people_access.specs.declared.refusals.PeopleRefusal.{PeopleRefusal}
 use Rattle.lab_people_access.specs.declared.refusals.PeopleRefusal.TheVariants.{BadPassword, SamePassword, CodeTaken, LabFull, OwnIssue, NoSuchPerson, IssueOpen, SamePerson as IsSamePerson, RandomRepeated}
-use Rattle.lab_people_access.specs.Persons.{person_of, is_locked, unlocked_person, standing_ask}
+use Rattle.lab_people_access.specs.Persons.{newcomer, person_of, is_locked, unlocked_person, standing_ask}
 use Rattle.lab_people_access.specs.Passwords.{is_set, accepts, is_password}
 use Rattle.lab_people_access.specs.Sessions.{session_of, sessions_after, closed_session}
 use Rattle.lab_people_access.specs.Attempts.{failure_count, failures_to_lock, counted_person, locked_person, attempt_by, attempt_of}
@@ -21,7 +21,7 @@ use Rattle.lab_people_access.specs.Openings.{numbered_opening, new_opening, open
 use Rattle.lab_forms_texts.specs.Ordinals.{ordinal_of}
 use Rattle.lab_people.specs.declared.accounts.Effect.{Effect}
 use Rattle.lab_people.specs.declared.issues.Issued.{Issued}
-use Rattle.lab_people.specs.Accounts.{newcomer, enrolling, person_meant, meant_then, setting_roles, retiring, unlocking, changing_by, changing, with_new_password}
+use Rattle.lab_people.specs.Accounts.{enrolling, person_meant, meant_then, setting_roles, retiring, unlocking, changing_by, changing, with_new_password}
 use Rattle.lab_people.specs.Issues.{asking, confirming, confirming_of, is_anothers, with_ask, with_one_time_word}
 use Rattle.std.specs.Prelude.{bytes_eq, ◌||◌, ◌&&◌, nat_lt, nat_le}
 use Rattle.lab_records_kept.specs.declared.labs.Lab.{Lab}

@@ -18,11 +18,11 @@ use Rattle.lab_people_access.specs.declared.refusals.PeopleRefusal.TheVariants.{
 use Rattle.lab_people_access.specs.Openings.{opening_by, numbered_opening, new_opening}
 use Rattle.lab_people_access.specs.Passwords.{is_password}
 use Rattle.lab_people_access.specs.Sessions.{session_of, closed_session, signed_session}
-use Rattle.lab_people.specs.Accounts.{changing_by, with_new_password, newcomer}
+use Rattle.lab_people.specs.Accounts.{changing_by, with_new_password}
 use Rattle.lab_records_kept.specs.declared.labs.Lab.{Lab}
 use Rattle.lab_records_kept.specs.declared.records.FormVersion.{FormVersion}
 use Rattle.lab_records_kept.specs.declared.records.Record.{Record}
-use Rattle.lab_people_access.specs.Persons.{person_limit}
+use Rattle.lab_people_access.specs.Persons.{newcomer, person_limit}
 use Rattle.lab_records_kept.specs.Limits.{IsWithin, IsOrderly, IsByForm, IsSmallForm, record_limit, row_limit}
 use Rattle.lab_records_kept.specs.Lookups.{last_form, record_of, record_about, next_form_version}
 use Rattle.lab_records_kept.specs.Lookups.{person_at}

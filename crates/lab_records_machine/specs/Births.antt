@@ -8,9 +8,9 @@ use Rattle.lab_people_access.specs.declared.persons.Person.{Person}
 use Rattle.lab_people_access.specs.declared.refusals.PeopleRefusal.TheVariants.{CodeTaken as IsTaken, BadPassword as IsBad}
 use Rattle.lab_people_access.specs.declared.roles.Role.TheVariants.{Administrator}
 use Rattle.lab_people_access.specs.Passwords.{is_password, chosen_password}
+use Rattle.lab_people_access.specs.Persons.{newcomer}
 use Rattle.lab_people_access.specs.Refusals.{people_refusal_entry}
 use Rattle.lab_people_access.specs.Roles.{no_roles, with_role}
-use Rattle.lab_people.specs.Accounts.{newcomer}
 use Rattle.lab_records_kept.specs.declared.labs.Lab.{Lab}
 use Rattle.lab_records_keeper.specs.declared.faults.PlacingFault.TheVariants.{LabExists as IsThere}
 use Rattle.lab_records_kept.specs.declared.trails.Deed.TheVariants.{Found}

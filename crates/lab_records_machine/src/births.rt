@@ -82,16 +82,11 @@ impl Founder {
     fn into_person(self, salt: [u8; 16], moment: Moment) -> Person
         ensures { result ≡ founder_person self salt moment }
     {
-        Person {
-            roles: Roles::none().with(Role::Administrator),
-            retired: false,
-            failures: 0,
-            locked: None,
-            password: Password::choose(self.password.as_str(), salt, moment),
-            ask: None,
-            code: self.code,
-            name: self.name,
-        }
+        let password = Password::choose(self.password.as_str(), salt, moment);
+        let roles = Roles::none().with(Role::Administrator);
+        let mut person = Person::newcomer(self.code, self.name, roles);
+        person.password = password;
+        person
     }
 }
 

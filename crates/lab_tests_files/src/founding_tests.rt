@@ -1,7 +1,7 @@
 //! A founding that is refused. Calls stand in functions without clauses, so that the proof of the test doesn't carry what a
 //! connection holds after each.
 use lab_forms::{Moment, Text, TextRule};
-use lab_people::{Password, Person, Roles};
+use lab_people::{Person, Roles};
 use lab_store::{FileFault, Newborn, PlacingFault, Tables, create, found};
 use sqlite::{Connection, MemStore};
 use std::alloc::Global;
@@ -15,16 +15,7 @@ fn text<R: TextRule>(rt: &(impl Abort + AllocGlobal), text: &str) -> Text<R> {
 }
 
 fn person(rt: &(impl Abort + AllocGlobal), code: &str) -> Person {
-    Person {
-        roles: Roles::none(),
-        retired: false,
-        failures: 0,
-        locked: None,
-        password: Password::Unset,
-        ask: None,
-        code: text(rt, code),
-        name: text(rt, "Somebody"),
-    }
+    Person::newcomer(text(rt, code), text(rt, "Somebody"), Roles::none())
 }
 
 // A laboratory of which two founders have one code.

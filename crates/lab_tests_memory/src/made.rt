@@ -1,8 +1,8 @@
 //! What a laboratory and changes are made of.
 use lab_forms_texts::{Text, TextRule};
 use lab_records_kept::{
-    Action, Change, Closing, Digest, Moment, Newborn, Ordinal, Password, Person, Role, Roles,
-    Series, Session, Subject, TrailRow,
+    Action, Change, Closing, Digest, Moment, Newborn, Ordinal, Person, Role, Roles, Series,
+    Session, Subject, TrailRow,
 };
 use std::process::Abort;
 
@@ -16,16 +16,7 @@ pub(crate) fn moment(rt: &impl Abort, seconds: i64) -> Moment {
 }
 
 fn person(rt: &(impl Abort + AllocGlobal), code: &str, name: &str, roles: Roles) -> Person {
-    Person {
-        roles,
-        retired: false,
-        failures: 0,
-        locked: None,
-        password: Password::Unset,
-        ask: None,
-        code: text(rt, code),
-        name: text(rt, name),
-    }
+    Person::newcomer(text(rt, code), text(rt, name), roles)
 }
 
 fn ann(rt: &(impl Abort + AllocGlobal)) -> Person {

@@ -1,7 +1,7 @@
 //! The parts of a laboratory.
 use lab_forms::{Field, Form, Kind};
 use lab_forms_texts::{Moment, Ordinal, Series, Text, TextRule};
-use lab_people_access::{Ask, Password, Person, Roles, Session};
+use lab_people_access::{Ask, Person, Roles, Session};
 use lab_records_kept::{
     Action, Digest, EntryRow, EntryRows, FormVersion, Format, Meaning, Origin, Record, Seal,
     Signature, Subject, TrailRow, Version,
@@ -36,16 +36,9 @@ pub(crate) fn person(rt: &(impl Abort + AllocGlobal), code: &str, asker: Option<
         }),
         None => None,
     };
-    Person {
-        roles: Roles::none(),
-        retired: false,
-        failures: 0,
-        locked: None,
-        password: Password::Unset,
-        code: text(rt, code),
-        name: text(rt, "Somebody"),
-        ask,
-    }
+    let mut person = Person::newcomer(text(rt, code), text(rt, "Somebody"), Roles::none());
+    person.ask = ask;
+    person
 }
 
 /// The first session, of the person.
