@@ -28,7 +28,7 @@ use Rattle.sqlite.specs.Effect.{Database, Reads}
 use Rattle.sqlite.specs.Listing.{understood, reads_listing, IsSourceOf}
 use Rattle.sqlite.proofs.Callers.{IsPlain, command_of}
 use Rattle.lab_store_tables.specs.Rows.{LabRow, PersonRow, FormRow, FieldRow, ChoiceRow, RecordRow, VersionRow, EntryRow, SignatureRow, TrailRow, lab_id, person_id, session_id, form_id, field_id, choice_id, record_id, version_id, entry_id, signature_id, trail_id, number, flag, optional}
-use Rattle.lab_store_tables.proofs.RowWords.{lab_row, session_row, field_row, choice_row, record_row, trail_row}
+use Rattle.lab_store_tables.proofs.RowWords.{lab_row, session_row, field_row, choice_row, record_row, trail_row, no_person}
 use Rattle.lab_store_tables.specs.Meaning.{has_code, by_form, code_of}
 use Rattle.lab_store_tables.specs.WellKept.{same_lab}
 use Rattle.lab_store_tables.specs.Family.{Labs, Persons, Sessions, Forms, Fields, Choices, Records, Versions, Entries, Signatures, Trail}
@@ -134,20 +134,6 @@ codes_read db file means rows h =
     ∙ ap (λ l. map code_shown (sort_by by_lab l)) all
 
 -- ---- the rows of one parent, each with the person that an arrow leads to
-
-abbrev no_person : PersonRow
-no_person = record {
-  id = pos 0;
-  lab = pos 0;
-  code = [];
-  name = [];
-  roles = 0;
-  retired = false;
-  failures = 0;
-  locked = None;
-  password = record { kind = 0; salt = None; rounds = None; bytes = None; salt2 = None; rounds2 = None; bytes2 = None; changed = None };
-  ask = record { asker = None; asked = None; salt = None; rounds = None; bytes = None };
-}
 
 person_or_none : (o : Option PersonRow) → ((unwrap_or o no_person).code ≡ unwrap_or (option_map (λ (p : PersonRow). p.code) o) [])
     × ((unwrap_or o no_person).lab ≡ unwrap_or (option_map (λ (p : PersonRow). p.lab) o) (pos 0))

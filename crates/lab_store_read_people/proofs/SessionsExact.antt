@@ -1,5 +1,5 @@
 -- The exact rows of each query, in a file of ours.
-use Rattle.std.proofs.Common.{◌≡◌, ◌≤◌, ℕ, ℤ, pos, false, ◌&&◌, List, [], ◌∷◌, map, filter, length, Option, Some, None, option_map, unwrap_or, refl, ap, ap₂, ◌∙◌, int_eq, bytes_eq, arith}
+use Rattle.std.proofs.Common.{◌≡◌, ◌≤◌, ℕ, ℤ, ◌&&◌, List, [], ◌∷◌, map, filter, length, Option, Some, None, option_map, unwrap_or, refl, ap, ap₂, ◌∙◌, int_eq, bytes_eq, arith}
 use Rattle.std.proofs.lemmas.List.{length-map}
 use Rattle.sqlite_value.specs.declared.value.Value.TheVariants.{Null, Int, Text, Blob}
 use Rattle.sqlite_value.specs.Order.{Row}
@@ -13,7 +13,7 @@ use Rattle.sqlite.specs.State.{State, Shown}
 use Rattle.sqlite.proofs.Callers.{reads_as}
 use Rattle.lab_store_tables.specs.Schema.{lab_schema}
 use Rattle.lab_store_tables.specs.Rows.{PersonRow, SessionRow, tables_in, person_id, session_id, number, flag}
-use Rattle.lab_store_tables.proofs.RowWords.{person_row, session_row}
+use Rattle.lab_store_tables.proofs.RowWords.{person_row, session_row, no_person}
 use Rattle.lab_store_tables.specs.Ready.{IsKept}
 use Rattle.lab_store_tables.specs.Changes.{is_session}
 use Rattle.lab_store_tables.specs.Family.{Persons, Sessions}
@@ -26,20 +26,6 @@ use Rattle.lab_store_read_people.proofs.SessionLists.{and_moved}
 use Rattle.lab_store_tables.proofs.Comparing.{equal_ints, equal_blobs}
 
 -- a session is shown with the code of its person
-abbrev no_person : PersonRow
-no_person = record {
-  id = pos 0;
-  lab = pos 0;
-  code = [];
-  name = [];
-  roles = 0;
-  retired = false;
-  failures = 0;
-  locked = None;
-  password = record { kind = 0; salt = None; rounds = None; bytes = None; salt2 = None; rounds2 = None; bytes2 = None; changed = None };
-  ask = record { asker = None; asked = None; salt = None; rounds = None; bytes = None };
-}
-
 code_or_none : (o : Option PersonRow) → (unwrap_or o no_person).code ≡ unwrap_or (option_map (λ (p : PersonRow). p.code) o) []
 code_or_none None = refl
 code_or_none (Some p) = refl

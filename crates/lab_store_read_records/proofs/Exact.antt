@@ -18,7 +18,7 @@ use Rattle.sqlite.specs.State.{State, Shown}
 use Rattle.sqlite.proofs.Callers.{reads_as}
 use Rattle.lab_store_tables.specs.Schema.{lab_schema}
 use Rattle.lab_store_tables.specs.Rows.{LabRow, RecordRow, PersonRow, EntryRow, tables_in, lab_id, record_id, person_id, version_id, entry_id, signature_id, number, optional}
-use Rattle.lab_store_tables.proofs.RowWords.{lab_row, record_row, person_row, version_row, entry_row, signature_row}
+use Rattle.lab_store_tables.proofs.RowWords.{lab_row, record_row, person_row, version_row, entry_row, signature_row, no_person}
 use Rattle.lab_store_tables.specs.Meaning.{has_code, code_of}
 use Rattle.lab_store_tables.specs.Ready.{IsKept}
 use Rattle.lab_store_tables.specs.Family.{Labs, Persons, Records, Versions, Entries, Signatures}
@@ -53,20 +53,6 @@ records_read old new lab wanted rows kept h =
     (alone_numbers (λ (x : RecordRow). x.lab) (λ (x : RecordRow). x.number) lab wanted xs (records_apart (tables_in old.now.trees) kept.rows)) rows (read.answer Null)
 
 -- ---- the rows of one parent, each with the code of a person
-
-abbrev no_person : PersonRow
-no_person = record {
-  id = pos 0;
-  lab = pos 0;
-  code = [];
-  name = [];
-  roles = 0;
-  retired = false;
-  failures = 0;
-  locked = None;
-  password = record { kind = 0; salt = None; rounds = None; bytes = None; salt2 = None; rounds2 = None; bytes2 = None; changed = None };
-  ask = record { asker = None; asked = None; salt = None; rounds = None; bytes = None };
-}
 
 code_or_none : (o : Option PersonRow) → (none : PersonRow) → none.code ≡ [] → (unwrap_or o none).code ≡ unwrap_or (option_map (λ (p : PersonRow). p.code) o) []
 code_or_none None none h = h

@@ -4,19 +4,20 @@
 -- reads these rows too, and makes a file of them.
 use Rattle.std.proofs.Common.{ℕ, ℤ, pos, Bool, true, false, List, [], ◌∷◌, Option, Some, None}
 use Rattle.std.specs.Prelude.{codes, replicate}
+use Rattle.lab_store_tables.proofs.RowWords.{no_desk, no_lab, no_password, no_ask, no_person, no_session, no_form, no_kind, no_field, no_choice, no_record, no_version, no_entry, no_signature, no_told}
 use Rattle.lab_store_tables.specs.Rows.{DeskRow, LabRow, PasswordColumns, AskColumns, PersonRow, SessionRow, FormRow, KindColumns, FieldRow, ChoiceRow, RecordRow, VersionRow, EntryRow, SignatureRow, TrailRow, Tables}
 
--- ---- rows, column by column
+-- ---- rows, column by column: what no argument gives is as in a row with nothing in it
 
 -- so many bytes, all of them this one
 abbrev pub filled : ℕ → ℕ → List ℕ
 filled count byte = replicate count byte
 
 abbrev pub desk : ℤ → ℕ → DeskRow
-desk id number = record { id = id; number = number }
+desk id number = record no_desk { id = id; number = number }
 
 abbrev pub lab : ℤ → List ℕ → List ℕ → ℕ → ℕ → ℕ → ℕ → ℕ → LabRow
-lab id code name last stray records sessions trail = record {
+lab id code name last stray records sessions trail = record no_lab {
   id = id;
   code = code;
   name = name;
@@ -28,31 +29,19 @@ lab id code name last stray records sessions trail = record {
 }
 
 abbrev pub unset : PasswordColumns
-unset = record {
-  kind = 0;
-  salt = None;
-  rounds = None;
-  bytes = None;
-  salt2 = None;
-  rounds2 = None;
-  bytes2 = None;
-  changed = None;
-}
+unset = no_password
 
 abbrev pub chosen : ℕ → ℕ → ℕ → ℕ → PasswordColumns
-chosen salt rounds bytes changed = record {
+chosen salt rounds bytes changed = record no_password {
   kind = 1;
   salt = Some (filled 16 salt);
   rounds = Some rounds;
   bytes = Some (filled 32 bytes);
-  salt2 = None;
-  rounds2 = None;
-  bytes2 = None;
   changed = Some changed;
 }
 
 abbrev pub one_time : ℕ → ℕ → ℕ → ℕ → ℕ → ℕ → ℕ → PasswordColumns
-one_time salt rounds bytes salt2 rounds2 bytes2 changed = record {
+one_time salt rounds bytes salt2 rounds2 bytes2 changed = record no_password {
   kind = 2;
   salt = Some (filled 16 salt);
   rounds = Some rounds;
@@ -64,10 +53,10 @@ one_time salt rounds bytes salt2 rounds2 bytes2 changed = record {
 }
 
 abbrev pub unasked : AskColumns
-unasked = record { asker = None; asked = None; salt = None; rounds = None; bytes = None }
+unasked = no_ask
 
 abbrev pub asked_by : ℤ → ℕ → ℕ → ℕ → ℕ → AskColumns
-asked_by asker asked salt rounds bytes = record {
+asked_by asker asked salt rounds bytes = record no_ask {
   asker = Some asker;
   asked = Some asked;
   salt = Some (filled 16 salt);
@@ -76,7 +65,7 @@ asked_by asker asked salt rounds bytes = record {
 }
 
 abbrev pub person : ℤ → ℤ → List ℕ → List ℕ → ℕ → Bool → ℕ → Option ℕ → PasswordColumns → AskColumns → PersonRow
-person id lab code name roles retired failures locked password ask = record {
+person id lab code name roles retired failures locked password ask = record no_person {
   id = id;
   lab = lab;
   code = code;
@@ -90,7 +79,7 @@ person id lab code name roles retired failures locked password ask = record {
 }
 
 abbrev pub session : ℤ → ℤ → ℤ → ℕ → List ℕ → ℕ → ℕ → Bool → Bool → SessionRow
-session id lab person number token opened last closed signed = record {
+session id lab person number token opened last closed signed = record no_session {
   id = id;
   lab = lab;
   person = person;
@@ -103,7 +92,7 @@ session id lab person number token opened last closed signed = record {
 }
 
 abbrev pub form : ℤ → ℤ → List ℕ → ℕ → Bool → FormRow
-form id lab code version approval = record {
+form id lab code version approval = record no_form {
   id = id;
   lab = lab;
   code = code;
@@ -112,37 +101,22 @@ form id lab code version approval = record {
 }
 
 abbrev pub number_of : List ℕ → ℕ → Option (List ℕ) → Option (List ℕ) → KindColumns
-number_of unit decimals low high = record {
+number_of unit decimals low high = record no_kind {
   word = codes "number";
   unit = Some unit;
   decimals = Some decimals;
   low = low;
   high = high;
-  size = None;
 }
 
 abbrev pub text_of : ℕ → KindColumns
-text_of size = record {
-  word = codes "text";
-  unit = None;
-  decimals = None;
-  low = None;
-  high = None;
-  size = Some size;
-}
+text_of size = record no_kind { word = codes "text"; size = Some size }
 
 abbrev pub plainly : List ℕ → KindColumns
-plainly word = record {
-  word = word;
-  unit = None;
-  decimals = None;
-  low = None;
-  high = None;
-  size = None;
-}
+plainly word = record no_kind { word = word }
 
 abbrev pub field : ℤ → ℤ → ℕ → List ℕ → List ℕ → Bool → KindColumns → FieldRow
-field id form place key label required kind = record {
+field id form place key label required kind = record no_field {
   id = id;
   form = form;
   place = place;
@@ -153,10 +127,10 @@ field id form place key label required kind = record {
 }
 
 abbrev pub choice : ℤ → ℤ → ℕ → List ℕ → ChoiceRow
-choice id field place name = record { id = id; field = field; place = place; name = name }
+choice id field place name = record no_choice { id = id; field = field; place = place; name = name }
 
 abbrev pub filed : ℤ → ℤ → ℕ → ℤ → List ℕ → List ℕ → ℕ → RecordRow
-filed id lab number form form_code sample current = record {
+filed id lab number form form_code sample current = record no_record {
   id = id;
   lab = lab;
   number = number;
@@ -167,7 +141,7 @@ filed id lab number form form_code sample current = record {
 }
 
 abbrev pub version : ℤ → ℤ → ℕ → ℕ → ℤ → ℕ → Option (List ℕ) → VersionRow
-version id kept number format opener opened reason = record {
+version id kept number format opener opened reason = record no_version {
   id = id;
   kept = kept;
   number = number;
@@ -178,7 +152,7 @@ version id kept number format opener opened reason = record {
 }
 
 abbrev pub entry : ℤ → ℤ → ℕ → List ℕ → List ℕ → List ℕ → ℤ → ℕ → Option (List ℕ) → EntryRow
-entry id version place key value unit person moment reason = record {
+entry id version place key value unit person moment reason = record no_entry {
   id = id;
   version = version;
   place = place;
@@ -191,7 +165,7 @@ entry id version place key value unit person moment reason = record {
 }
 
 abbrev pub signature : ℤ → ℤ → ℕ → ℤ → List ℕ → List ℕ → ℕ → Option (List ℕ) → List ℕ → List ℕ → SignatureRow
-signature id version place person name meaning moment reason digest seal = record {
+signature id version place person name meaning moment reason digest seal = record no_signature {
   id = id;
   version = version;
   place = place;
@@ -205,7 +179,7 @@ signature id version place person name meaning moment reason digest seal = recor
 }
 
 abbrev pub told : ℤ → ℤ → ℕ → ℕ → Option ℤ → List ℕ → List ℕ → TrailRow
-told id lab number moment person action subject = record {
+told id lab number moment person action subject = record no_told {
   id = id;
   lab = lab;
   number = number;

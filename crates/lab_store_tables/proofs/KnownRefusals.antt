@@ -11,9 +11,11 @@ use Rattle.lab_records_kept.specs.declared.records.Signature.{Signature}
 use Rattle.lab_records_kept.specs.declared.trails.TrailRow.{TrailRow as Told}
 use Rattle.lab_records_kept.specs.declared.trails.Action.TheVariants as action
 use Rattle.lab_records_kept.specs.declared.changes.Change.TheVariants.{Last}
+use Rattle.lab_records_kept.proofs.KnownDefaults.{bare_entry, bare_form, bare_session, bare_signature, bare_told}
 use Rattle.lab_store_tables.specs.Rows.{RecordRow, Tables, person_id}
 use Rattle.lab_store_tables.specs.Changes.{IsFree, version_named, AddsPerson, SetsPerson, AddsSession, SetsSession, AddsRecord, EntersRow, OpensVersion, SignsVersion, AddsTold, Applies}
 use Rattle.lab_store_tables.specs.Placing.{PlacesLab}
+use Rattle.lab_store_tables.proofs.RowWords.{no_record}
 use Rattle.lab_store_tables.proofs.KnownFile.{filled, file, filed}
 use Rattle.lab_store_tables.proofs.KnownValues.{aqua, aqua_record, verifier}
 use Rattle.lab_store_tables.proofs.KnownChanges.{bob, amended}
@@ -52,15 +54,7 @@ known_taken free = true_is free
 -- ---- sessions
 
 abbrev of_max : Session
-of_max = record {
-  number = 3;
-  person = codes "max";
-  token = filled 32 44;
-  opened = 1590;
-  last = 1590;
-  closed = false;
-  signed = false;
-}
+of_max = record bare_session { number = 3; person = codes "max"; token = filled 32 44; opened = 1590; last = 1590 }
 
 pub known_no_such_holder : (new : Tables) → AddsSession (pos 7) of_max file new → ⊥
 known_no_such_holder new it = none_is it.person it.named
@@ -76,20 +70,19 @@ known_no_such_session new it = none_is it.id it.found
 
 abbrev no_such_form : Kept
 no_such_form = record (aqua_record 3 (codes "S3") []) {
-  form = record { code = codes "water"; version = 3; form = record { fields = []; approval = false } };
+  form = record bare_form { code = codes "water"; version = 3; form = record { fields = []; approval = false } };
 }
 
 pub known_no_such_form : (new : Tables) → AddsRecord (pos 7) no_such_form file new → ⊥
 known_no_such_form new it = none_is it.form it.named
 
 abbrev by_max : Entry
-by_max = record {
+by_max = record bare_entry {
   key = codes "lead";
   value = codes "8.00";
   unit = codes "mg/L";
   person = codes "max";
   moment = 1500;
-  reason = None;
 }
 
 pub known_no_such_writer : (new : Tables) → EntersRow (pos 7) 2 by_max file new → ⊥
@@ -103,7 +96,7 @@ pub known_none_to_amend : (new : Tables) → OpensVersion (pos 7) 3 amended file
 known_none_to_amend new it = none_is it.kept it.found
 
 abbrev signed_by_max : Signature
-signed_by_max = record {
+signed_by_max = record bare_signature {
   person = codes "max";
   name = codes "Max Moss";
   meaning = Review;
@@ -115,19 +108,16 @@ signed_by_max = record {
 pub known_no_such_signer : (new : Tables) → SignsVersion (pos 7) 2 1 signed_by_max file new → ⊥
 known_no_such_signer new it = none_is it.added.person it.added.named
 
-abbrev nobodys_record : RecordRow
-nobodys_record = filed (pos 0) (pos 0) 0 (pos 0) [] [] 0
-
 pub known_no_such_version : (new : Tables) → SignsVersion (pos 7) 2 2 signed_by_max file new → ⊥
 known_no_such_version new it =
     let same : it.kept ≡ filed (pos 1) (pos 7) 2 (pos 1) (codes "water") (codes "S2") 1 =
-    sym (ap (λ o. unwrap_or o nobodys_record) it.found) in
+    sym (ap (λ o. unwrap_or o no_record) it.found) in
     none_is it.signed (subst (λ (kept : RecordRow). version_named file kept.id 2 ≡ Some it.signed) same it.there)
 
 -- ---- the trail, and laboratories
 
 abbrev told_of_max : Told
-told_of_max = record {
+told_of_max = record bare_told {
   number = 13;
   moment = 1620;
   person = Some (codes "max");

@@ -1,8 +1,9 @@
 -- Definitions for proofs only, which belong to specs/Rows.antt: no clause names them.
+use Rattle.std.proofs.Common.{pos, false, [], None}
 use Rattle.sqlite_value.specs.Order.{Row}
 use Rattle.lab_store_tables.specs.Family.{Desk, Labs, Persons, Sessions, Forms, Fields, Choices, Records, Versions, Entries, Signatures, Trail}
 use Rattle.lab_store_tables.proofs.FamilyWords.{stored_row, read_row}
-use Rattle.lab_store_tables.specs.RowRecords.{DeskRow, LabRow, PersonRow, SessionRow, FormRow, FieldRow, ChoiceRow, RecordRow, VersionRow, EntryRow, SignatureRow, TrailRow}
+use Rattle.lab_store_tables.specs.RowRecords.{DeskRow, LabRow, PasswordColumns, AskColumns, PersonRow, SessionRow, FormRow, KindColumns, FieldRow, ChoiceRow, RecordRow, VersionRow, EntryRow, SignatureRow, TrailRow}
 
 abbrev pub desk_row : DeskRow → Row
 desk_row = stored_row Desk
@@ -75,3 +76,142 @@ trail_row = stored_row Trail
 
 abbrev pub trail_from : Row → TrailRow
 trail_from = read_row Trail
+
+-- ---- rows with nothing in them: known rows are updates of these, so that a new column stands here alone
+
+abbrev pub no_desk : DeskRow
+no_desk = record { id = pos 0; number = 0 }
+
+abbrev pub no_lab : LabRow
+no_lab = record {
+  id = pos 0;
+  code = [];
+  name = [];
+  last = 0;
+  stray = 0;
+  records = 0;
+  sessions = 0;
+  trail = 0;
+}
+
+abbrev pub no_password : PasswordColumns
+no_password = record {
+  kind = 0;
+  salt = None;
+  rounds = None;
+  bytes = None;
+  salt2 = None;
+  rounds2 = None;
+  bytes2 = None;
+  changed = None;
+}
+
+abbrev pub no_ask : AskColumns
+no_ask = record { asker = None; asked = None; salt = None; rounds = None; bytes = None }
+
+abbrev pub no_person : PersonRow
+no_person = record {
+  id = pos 0;
+  lab = pos 0;
+  code = [];
+  name = [];
+  roles = 0;
+  retired = false;
+  failures = 0;
+  locked = None;
+  password = no_password;
+  ask = no_ask;
+}
+
+abbrev pub no_session : SessionRow
+no_session = record {
+  id = pos 0;
+  lab = pos 0;
+  person = pos 0;
+  number = 0;
+  token = [];
+  opened = 0;
+  last = 0;
+  closed = false;
+  signed = false;
+}
+
+abbrev pub no_form : FormRow
+no_form = record { id = pos 0; lab = pos 0; code = []; version = 0; approval = false }
+
+abbrev pub no_kind : KindColumns
+no_kind = record { word = []; unit = None; decimals = None; low = None; high = None; size = None }
+
+abbrev pub no_field : FieldRow
+no_field = record {
+  id = pos 0;
+  form = pos 0;
+  place = 0;
+  key = [];
+  label = [];
+  required = false;
+  kind = no_kind;
+}
+
+abbrev pub no_choice : ChoiceRow
+no_choice = record { id = pos 0; field = pos 0; place = 0; name = [] }
+
+abbrev pub no_record : RecordRow
+no_record = record {
+  id = pos 0;
+  lab = pos 0;
+  number = 0;
+  form = pos 0;
+  form_code = [];
+  sample = [];
+  current = 0;
+}
+
+abbrev pub no_version : VersionRow
+no_version = record {
+  id = pos 0;
+  kept = pos 0;
+  number = 0;
+  format = 0;
+  opener = pos 0;
+  opened = 0;
+  reason = None;
+}
+
+abbrev pub no_entry : EntryRow
+no_entry = record {
+  id = pos 0;
+  version = pos 0;
+  place = 0;
+  key = [];
+  value = [];
+  unit = [];
+  person = pos 0;
+  moment = 0;
+  reason = None;
+}
+
+abbrev pub no_signature : SignatureRow
+no_signature = record {
+  id = pos 0;
+  version = pos 0;
+  place = 0;
+  person = pos 0;
+  name = [];
+  meaning = [];
+  moment = 0;
+  reason = None;
+  digest = [];
+  seal = [];
+}
+
+abbrev pub no_told : TrailRow
+no_told = record {
+  id = pos 0;
+  lab = pos 0;
+  number = 0;
+  moment = 0;
+  person = None;
+  action = [];
+  subject = [];
+}
