@@ -8,24 +8,24 @@ use Rattle.lab_seal_versions.specs.declared.seals.Meaning.TheVariants.{Authorshi
 use Rattle.lab_records_kept.specs.declared.records.Record.{Record}
 use Rattle.lab_records_kept.specs.declared.records.Version.{Version}
 use Rattle.lab_records_kept.specs.declared.records.Signature.{Signature}
+use Rattle.lab_records_kept.proofs.KnownDefaults.{bare_entry, bare_form, bare_record, bare_signature, bare_version}
 use Rattle.lab_move_checks.specs.Tests.{is_same, says_of_approval, third_differs, are_settled_after, is_signed_dually}
 use Rattle.lab_move_checks.specs.Orders.{are_numbered}
 
 abbrev signed : List ℕ → Meaning → Signature
-signed person meaning = record { person = person; name = person; meaning = meaning; moment = 9; digest = []; seal = [] }
+signed person meaning = record bare_signature { person = person; name = person; meaning = meaning; moment = 9 }
 
 abbrev entered : List Signature → Version
-entered signatures = record {
+entered signatures = record bare_version {
   format = One;
-  origin = record { number = 1; amendment = None };
   opener = codes "dan";
   opened = 8;
-  rows = record { key = codes "lead"; value = codes "7"; unit = []; person = codes "dan"; moment = 8; reason = None } ∷ [];
+  rows = record bare_entry { key = codes "lead"; value = codes "7"; person = codes "dan"; moment = 8 } ∷ [];
   signatures = signatures;
 }
 
 abbrev kept : Record
-kept = record { number = 1; form = record { code = codes "water"; version = 1; form = record { fields = []; approval = false } }; sample = codes "S1"; versions = [] }
+kept = record bare_record { number = 1; form = record bare_form { code = codes "water"; version = 1; form = record { fields = []; approval = false } }; sample = codes "S1" }
 
 abbrev released : Version
 released = entered (signed (codes "dan") Authorship ∷ signed (codes "eve") Review ∷ [])

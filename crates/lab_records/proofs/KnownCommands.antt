@@ -12,7 +12,7 @@ use Rattle.lab_forms_texts.specs.Names.{is_note}
 use Rattle.lab_forms_texts.specs.declared.tick.Tick.{Tick}
 use Rattle.lab_seal_hashes.specs.declared.verifiers.VerifierParts.{VerifierParts}
 use Rattle.lab_people_access.specs.declared.persons.Person.{Person}
-use Rattle.lab_people_access.specs.declared.passwords.Password.TheVariants.{Unset, Chosen}
+use Rattle.lab_people_access.specs.declared.passwords.Password.TheVariants.{Chosen}
 use Rattle.lab_people_access.specs.declared.roles.Role.{Role}
 use Rattle.lab_people_access.specs.declared.roles.Role.TheVariants.{Analyst, Reviewer, Manager, Administrator, Inspector}
 use Rattle.lab_people_access.specs.declared.sessions.Session.{Session}
@@ -23,6 +23,7 @@ use Rattle.lab_people_access.specs.declared.refusals.PeopleRefusal.TheVariants.{
 use Rattle.lab_people_access.specs.Attempts.{attempt_by}
 use Rattle.lab_people_access.specs.Openings.{opening}
 use Rattle.lab_people_access.specs.Roles.{no_roles, with_role}
+use Rattle.lab_people_access.specs.Persons.{newcomer}
 use Rattle.lab_people.specs.Accounts.{changing, enrolling, setting_roles, retiring, unlocking}
 use Rattle.lab_people.specs.Issues.{asking, confirming}
 use Rattle.lab_forms.specs.declared.forms.Field.{Field}
@@ -39,6 +40,7 @@ use Rattle.lab_records_kept.specs.declared.records.Signature.{Signature}
 use Rattle.lab_records_kept.specs.declared.trails.Deed.TheVariants as deed
 use Rattle.lab_records_kept.specs.declared.trails.Occasion.TheVariants as occasion
 use Rattle.lab_records_kept.specs.Digests.{digest_of}
+use Rattle.lab_records_kept.proofs.KnownDefaults.{bare_entry, bare_field, bare_form, bare_record, bare_session}
 use Rattle.lab_records_rules.specs.declared.items.Item.{Item}
 use Rattle.lab_records_rules.specs.declared.outcomes.Signing.TheVariants.{Authorship, Review}
 use Rattle.lab_records_rules.specs.declared.refusals.Refusal.TheVariants.{People, NoSuchForm, RecordExists, NoSuchRecord, NoSuchVersion, ReasonWanted, NothingAltered, AmendmentOpen, NotSigned, CodeWanted}
@@ -57,16 +59,7 @@ use Rattle.lab_records_machine.specs.Makings.{is_digest_made_by, makes_on_record
 -- ---- a part of a laboratory, and who asks
 
 abbrev account : List ℕ → List ℕ → Role → Person
-account code name role = record {
-  code = code;
-  name = name;
-  roles = with_role no_roles role;
-  retired = false;
-  failures = 0;
-  locked = None;
-  password = Unset;
-  ask = None;
-}
+account code name role = newcomer code name (with_role no_roles role)
 
 abbrev ann : Person
 ann = account (codes "ann") (codes "Ann Ames") Administrator
@@ -93,18 +86,10 @@ locked verifier = record (failing verifier 5) { locked = Some 1300 }
 
 -- a session of a person, in which nothing was signed
 abbrev session : List ℕ → Session
-session person = record {
-  number = 7;
-  person = person;
-  token = [];
-  opened = 900;
-  last = 1100;
-  closed = false;
-  signed = false;
-}
+session person = record bare_session { number = 7; person = person; opened = 900; last = 1100 }
 
 abbrev lead : Field
-lead = record {
+lead = record bare_field {
   key = codes "lead";
   label = codes "Lead";
   required = true;
@@ -113,7 +98,7 @@ lead = record {
 
 -- a version of the form water
 abbrev water : ℕ → Bool → FormVersion
-water version approval = record {
+water version approval = record bare_form {
   code = codes "water";
   version = version;
   form = record { fields = lead ∷ []; approval = approval };
@@ -123,20 +108,20 @@ water version approval = record {
 abbrev first : Version
 first = record (first_version false (codes "dan") 1000) {
   rows =
-      (record { key = codes "lead"; value = codes "7.50"; unit = codes "mg/L"; person = codes "dan"; moment = 1100; reason = None })
+      (record bare_entry { key = codes "lead"; value = codes "7.50"; unit = codes "mg/L"; person = codes "dan"; moment = 1100 })
       ∷ [];
 }
 
 abbrev corrected : Version
 corrected = record (first_version false (codes "dan") 1000) {
   rows =
-      (record { key = codes "lead"; value = codes "7.50"; unit = codes "mg/L"; person = codes "dan"; moment = 1100; reason = None })
-      ∷ (record { key = codes "lead"; value = codes "7.5"; unit = codes "mg/L"; person = codes "dan"; moment = 1200; reason = Some (codes "misread scale") })
+      (record bare_entry { key = codes "lead"; value = codes "7.50"; unit = codes "mg/L"; person = codes "dan"; moment = 1100 })
+      ∷ (record bare_entry { key = codes "lead"; value = codes "7.5"; unit = codes "mg/L"; person = codes "dan"; moment = 1200; reason = Some (codes "misread scale") })
       ∷ [];
 }
 
 abbrev about : Version → Record
-about version = record { number = 1; form = water 1 false; sample = codes "S1"; versions = version ∷ [] }
+about version = record bare_record { number = 1; form = water 1 false; sample = codes "S1"; versions = version ∷ [] }
 
 -- the part that a command needs which names nobody and nothing
 abbrev slice : Slice
@@ -284,7 +269,7 @@ pub known_records : (tick : Tick)
     ≡ Refused (RecordExists 1))
     × (asked (with_form (water 1 false)) tick 1200 dan (OnRecord (OpenRecord (codes "water") (codes "S2")))
     ≡ Made (reply.RecordOpened 2 1) (deed.Record 2)
-    (RecordAdded (record {
+    (RecordAdded (record bare_record {
       number = 2;
       form = water 1 false;
       sample = codes "S2";
@@ -303,7 +288,7 @@ pub known_entries : (tick : Tick)
     × (asked with_record tick 1200 dan (OnRecord (Enter 1 seven_five (Some (codes "misread scale"))))
     ≡ Made (reply.Entered 1 1 2 (digest_of (codes "aqua") (about first) corrected)) (deed.Entry 1 1 (codes "lead"))
     (RowAdded 1
-    (record { key = codes "lead"; value = codes "7.5"; unit = codes "mg/L"; person = codes "dan"; moment = 1200; reason = Some (codes "misread scale") })
+    (record bare_entry { key = codes "lead"; value = codes "7.5"; unit = codes "mg/L"; person = codes "dan"; moment = 1200; reason = Some (codes "misread scale") })
     ∷ []))
 unfolding done_on_record value_refusal is_note is_utf8 chars encode is_number amount is_unsigned_number is_digits without_sign without_comparison millionths_of decimal_value
 known_entries tick = (refl, refl, refl)

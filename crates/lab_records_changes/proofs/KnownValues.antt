@@ -1,53 +1,33 @@
 -- Values from outside, so that a wrong rule in the definition does not check: in a laboratory that has dan
 -- and one session of his, and no record, setting another person or session makes nothing, nor does a version
 -- or a signature of record 1.
-use Rattle.std.proofs.Common.{◌≡◌, ℕ, true, false, List, [], ◌∷◌, replicate, None, refl}
+use Rattle.std.proofs.Common.{◌≡◌, ℕ, true, false, List, [], ◌∷◌, replicate, refl}
 use Rattle.std.specs.Prelude.{codes}
-use Rattle.lab_people_access.specs.declared.passwords.Password.TheVariants.{Unset}
 use Rattle.lab_people_access.specs.declared.persons.Person.{Person}
 use Rattle.lab_people_access.specs.declared.roles.Role.TheVariants.{Analyst}
 use Rattle.lab_people_access.specs.declared.sessions.Session.{Session}
 use Rattle.lab_people_access.specs.Roles.{no_roles, with_role}
+use Rattle.lab_people_access.specs.Persons.{newcomer}
 use Rattle.lab_records_kept.specs.declared.changes.Change.TheVariants.{PersonSet, SessionSet, VersionOpened, SignatureAdded}
 use Rattle.lab_records_kept.specs.declared.labs.Lab.{Lab}
 use Rattle.lab_records_kept.specs.declared.records.Signature.{Signature}
 use Rattle.lab_records_kept.specs.declared.records.Version.{Version}
+use Rattle.lab_records_kept.proofs.KnownDefaults.{bare_lab, bare_session}
 use Rattle.lab_records_changes.specs.Makes.{makes}
 
 abbrev account : List ℕ → Person
-account code = record {
-  code = code;
-  name = codes "Dan Poe";
-  roles = with_role no_roles Analyst;
-  retired = false;
-  failures = 0;
-  locked = None;
-  password = Unset;
-  ask = None;
-}
+account code = newcomer code (codes "Dan Poe") (with_role no_roles Analyst)
 
 abbrev session : List ℕ → Session
-session token = record {
-  number = 1;
-  person = codes "dan";
-  token = token;
-  opened = 900;
-  last = 1100;
-  closed = false;
-  signed = false;
-}
+session token = record bare_session { number = 1; person = codes "dan"; token = token; opened = 900; last = 1100 }
 
 abbrev aqua : Lab
-aqua = record {
+aqua = record bare_lab {
   code = codes "aqua";
   name = codes "Aqua Lab";
   last = 1100;
-  strays = 0;
   persons = account (codes "dan") ∷ [];
   sessions = session (replicate 32 7) ∷ [];
-  forms = [];
-  records = [];
-  trail = [];
 }
 
 pub dan_is_set : makes aqua (PersonSet (account (codes "dan"))) ≡ true

@@ -8,6 +8,7 @@ use Rattle.lab_forms_texts.specs.Moment.{moment_text}
 use Rattle.lab_seal_versions.specs.declared.rows.EntryRow.{EntryRow}
 use Rattle.lab_records_kept.specs.declared.records.Record.{Record}
 use Rattle.lab_records_kept.specs.declared.records.Version.{Version}
+use Rattle.lab_records_kept.proofs.KnownDefaults.{bare_entry}
 use Rattle.lab_copy_rows.specs.declared.lines.Line.TheVariants as line
 use Rattle.lab_records_copies.specs.declared.orders.CopyOrder.{CopyOrder}
 use Rattle.lab_records_copies.specs.CopyLines.{copy_rows, counts_in, entry_line, fields_of_line, record_line}
@@ -31,7 +32,7 @@ known_empty_copies = (refl, refl)
 
 -- what dan enters, with a reason where the value is another one
 abbrev entered : EntryRow
-entered = record {
+entered = record bare_entry {
   key = codes "lead";
   value = codes "7.50";
   unit = codes "mg/L";

@@ -20,6 +20,7 @@ use Rattle.lab_records_kept.specs.declared.records.FormVersion.{FormVersion}
 use Rattle.lab_records_kept.specs.declared.records.Record.{Record}
 use Rattle.lab_records_kept.specs.declared.records.Signature.{Signature}
 use Rattle.lab_records_kept.specs.declared.records.Version.{Version}
+use Rattle.lab_records_kept.proofs.KnownDefaults.{bare_entry, bare_form, bare_lab, bare_record, bare_signature, bare_version}
 use Rattle.lab_copy_rows.specs.Outs.{counted_all, no_counts}
 use Rattle.lab_records_copy_out.specs.Faults.{CopyFaultFits, copy_fault_number, copy_fault_word}
 use Rattle.lab_records_copy_out.specs.Walks.{IsWalkable, copy_text, desk_order, last_walked, numbers_between, walked}
@@ -32,14 +33,14 @@ abbrev bytes : List ℕ → List ℕ
 bytes written = unwrap_or (bytes_of_digits 32 written) []
 
 abbrev water : ℕ → Bool → FormVersion
-water number approval = record {
+water number approval = record bare_form {
   code = codes "water";
   version = number;
   form = record { fields = []; approval = approval };
 }
 
 abbrev entry : List ℕ → ℕ → Option (List ℕ) → EntryRow
-entry value moment reason = record {
+entry value moment reason = record bare_entry {
   key = codes "lead";
   value = value;
   unit = codes "mg/L";
@@ -49,7 +50,7 @@ entry value moment reason = record {
 }
 
 abbrev signed : List ℕ → List ℕ → Meaning → ℕ → List ℕ → Signature
-signed person name meaning moment seal = record {
+signed person name meaning moment seal = record bare_signature {
   person = person;
   name = name;
   meaning = meaning;
@@ -60,14 +61,12 @@ signed person name meaning moment seal = record {
 
 -- dan enters a value and signs it, and eve reviews it
 abbrev first : List ℕ → Version
-first value = record {
+first value = record bare_version {
   format = Two false;
-  origin = record { number = 1; amendment = None };
   opener = codes "dan";
   opened = 1000;
   rows = entry value 1100 None ∷ [];
-  signatures =
-      signed (codes "dan") (codes "Dan Day") Authorship 1200
+  signatures = signed (codes "dan") (codes "Dan Day") Authorship 1200
       (codes "264cbf825abc0622caf3055b4450d7f32efad956706b2101174e01c663b35ec4")
       ∷ signed (codes "eve") (codes "Eve Ems") Review 1210
       (codes "711fb768e707d956a0c92bf004b2807206d8df9f5a1f4ab9b09151f1e35c6275")
@@ -76,7 +75,7 @@ first value = record {
 
 -- dan amends it
 abbrev second : Version
-second = record {
+second = record bare_version {
   format = Two false;
   origin = record {
     number = 2;
@@ -88,39 +87,21 @@ second = record {
   opener = codes "dan";
   opened = 1220;
   rows = entry (codes "7.5") 1220 (Some (codes "misread: \"7,50\"")) ∷ [];
-  signatures = [];
 }
 
 -- nothing is entered yet
 abbrev bare : Version
-bare = record {
-  format = Two true;
-  origin = record { number = 1; amendment = None };
-  opener = codes "dan";
-  opened = 1330;
-  rows = [];
-  signatures = [];
-}
+bare = record bare_version { format = Two true; opener = codes "dan"; opened = 1330 }
 
 -- records 1 and 4, of a laboratory
 abbrev one : Record
-one = record { number = 1; form = water 1 false; sample = codes "S1"; versions = first (codes "7.50") ∷ second ∷ [] }
+one = record bare_record { number = 1; form = water 1 false; sample = codes "S1"; versions = first (codes "7.50") ∷ second ∷ [] }
 
 abbrev four : Record
-four = record { number = 4; form = water 2 true; sample = codes "S4"; versions = bare ∷ [] }
+four = record bare_record { number = 4; form = water 2 true; sample = codes "S4"; versions = bare ∷ [] }
 
 abbrev laboratory : List Record → Lab
-laboratory records = record {
-  code = codes "aqua";
-  name = codes "Aqua Lab";
-  last = 1330;
-  strays = 0;
-  persons = [];
-  sessions = [];
-  forms = [];
-  records = records;
-  trail = [];
-}
+laboratory records = record bare_lab { code = codes "aqua"; name = codes "Aqua Lab"; last = 1330; records = records }
 
 -- ---- the text
 

@@ -9,11 +9,11 @@ use Rattle.std.proofs.lemmas.Bool.{false≢true}
 use Rattle.std.proofs.lemmas.List.Elements.{All-from_recursion}
 use Rattle.lab_people_access.specs.declared.roles.Role.{Role}
 use Rattle.lab_people_access.specs.declared.roles.Role.TheVariants.{Analyst, Reviewer, Manager}
-use Rattle.lab_people_access.specs.declared.passwords.Password.TheVariants.{Unset}
 use Rattle.lab_people_access.specs.declared.persons.Person.{Person}
 use Rattle.lab_people_access.specs.declared.sessions.Session.{Session}
 use Rattle.lab_people_access.specs.Roles.{no_roles, with_role}
 use Rattle.lab_people_access.specs.Sessions.{closed_session}
+use Rattle.lab_people_access.specs.Persons.{newcomer}
 use Rattle.lab_forms.specs.declared.kinds.Kind.TheVariants.{Number}
 use Rattle.lab_forms.specs.declared.forms.Field.{Field}
 use Rattle.lab_seal_versions.specs.declared.rows.EntryRow.{EntryRow}
@@ -35,6 +35,7 @@ use Rattle.lab_records_kept.specs.Values.{version_state, all_rows}
 use Rattle.lab_records_kept.specs.Bound.{IsBoundTo, IsSealed, IsBoundRecord, IsBound}
 use Rattle.lab_records_kept.specs.Dual.{EnteredNone, IsSignedDually, IsDualRecord, IsDual}
 use Rattle.lab_records_kept.specs.Keeping.{KeepsPerson, KeepsPersons, IsToldOnce, Keeps}
+use Rattle.lab_records_kept.proofs.KnownDefaults.{bare_entry, bare_field, bare_form, bare_lab, bare_record, bare_session, bare_told, bare_version}
 
 -- ---- what these laboratories hold: dan enters, eve reviews, gus approves
 
@@ -42,16 +43,7 @@ abbrev aqua : List ℕ
 aqua = codes "aqua"
 
 abbrev account : List ℕ → List ℕ → Role → Person
-account code name role = record {
-  code = code;
-  name = name;
-  roles = with_role no_roles role;
-  retired = false;
-  failures = 0;
-  locked = None;
-  password = Unset;
-  ask = None;
-}
+account code name role = newcomer code name (with_role no_roles role)
 
 abbrev persons : List Person
 persons =
@@ -60,18 +52,16 @@ persons =
 
 -- dan's session, and when it was last used
 abbrev session : ℕ → Session
-session last = record {
+session last = record bare_session {
   number = 1;
   person = codes "dan";
   token = replicate 32 7;
   opened = 900;
   last = last;
-  closed = false;
-  signed = false;
 }
 
 abbrev lead : Field
-lead = record {
+lead = record bare_field {
   key = codes "lead";
   label = codes "Lead";
   required = true;
@@ -80,7 +70,7 @@ lead = record {
 
 -- the form, whose version 1 wants no approval, and version 2 does
 abbrev water : Bool → FormVersion
-water approval = record {
+water approval = record bare_form {
   code = codes "water";
   version = cond approval 2 1;
   form = record { fields = lead ∷ []; approval = approval };
@@ -88,7 +78,7 @@ water approval = record {
 
 -- somebody enters an amount of lead, in place of an earlier one for a reason
 abbrev row : List ℕ → List ℕ → ℕ → Option (List ℕ) → EntryRow
-row person value moment reason = record {
+row person value moment reason = record bare_entry {
   key = codes "lead";
   value = value;
   unit = codes "mg/L";
@@ -105,9 +95,8 @@ by_eve = row (codes "eve") (codes "7.52") 1200 (Some (codes "misread scale"))
 
 -- version 1, which dan opened, with these rows and signatures
 abbrev version : Bool → List EntryRow → List Signature → Version
-version approval rows signatures = record {
+version approval rows signatures = record bare_version {
   format = Two approval;
-  origin = record { number = 1; amendment = None };
   opener = codes "dan";
   opened = 1000;
   rows = rows;
@@ -116,18 +105,17 @@ version approval rows signatures = record {
 
 -- version 2, by which dan amends what has the digest
 abbrev amended : List ℕ → Version
-amended previous = record {
+amended previous = record bare_version {
   format = Two false;
   origin = record { number = 2; amendment = Some (record { previous = previous; reason = codes "misread scale" }) };
   opener = codes "dan";
   opened = 1500;
   rows = row (codes "dan") (codes "7.05") 1500 (Some (codes "misread scale")) ∷ [];
-  signatures = [];
 }
 
 -- record 1, about sample S1
 abbrev about : Bool → List Version → Record
-about approval versions = record {
+about approval versions = record bare_record {
   number = 1;
   form = water approval;
   sample = codes "S1";
@@ -161,11 +149,10 @@ gus_approves over = signed (codes "gus") (codes "Gus Gray") Approval 1450 over
 
 -- the laboratory after its last moment, with these records and rows of the trail
 abbrev laboratory : ℕ → List Record → List TrailRow → Lab
-laboratory last records trail = record {
+laboratory last records trail = record bare_lab {
   code = aqua;
   name = codes "Aqua Lab";
   last = last;
-  strays = 0;
   persons = persons;
   sessions = session last ∷ [];
   forms = water false ∷ water true ∷ [];
@@ -362,7 +349,7 @@ known_not_dual = (
 
 -- a row of the trail, which tells of dan
 abbrev told : ℕ → ℕ → Action → List ℕ → TrailRow
-told number moment done subject = record {
+told number moment done subject = record bare_told {
   number = number;
   moment = moment;
   person = Some (codes "dan");

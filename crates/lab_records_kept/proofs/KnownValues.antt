@@ -10,6 +10,7 @@ use Rattle.lab_records_kept.specs.declared.trails.Occasion.TheVariants.{Signing}
 use Rattle.lab_records_kept.specs.declared.trails.Deed.TheVariants.{Found, Open, Refuse, Lock, Enrol, Form, Record, Entry, Amend, Sign}
 use Rattle.lab_records_kept.specs.Trails.{action_of, action_word, roles_text, subject_text}
 use Rattle.lab_records_kept.specs.Values.{value_of, is_altered}
+use Rattle.lab_records_kept.proofs.KnownDefaults.{bare_entry}
 
 -- dan is an analyst and a reviewer
 abbrev roles : Roles
@@ -41,13 +42,12 @@ known_words = (refl, refl, refl)
 
 -- dan enters a value, and another one in its place
 abbrev row : List ℕ → List ℕ → ℕ → EntryRow
-row key value moment = record {
+row key value moment = record bare_entry {
   key = key;
   value = value;
   unit = codes "mg/L";
   person = codes "dan";
   moment = moment;
-  reason = None;
 }
 
 abbrev first : EntryRow

@@ -7,7 +7,7 @@ use Rattle.std.proofs.lemmas.Bool.{false≢true}
 use Rattle.std.proofs.lemmas.List.Elements.{All-from_recursion, All-nil}
 use Rattle.lab_forms_texts.specs.declared.tick.Tick.{Tick}
 use Rattle.lab_seal_hashes.specs.declared.verifiers.VerifierParts.{VerifierParts}
-use Rattle.lab_people_access.specs.declared.passwords.Password.TheVariants.{Unset, Chosen}
+use Rattle.lab_people_access.specs.declared.passwords.Password.TheVariants.{Chosen}
 use Rattle.lab_people_access.specs.declared.persons.Person.{Person}
 use Rattle.lab_people_access.specs.declared.roles.Role.{Role}
 use Rattle.lab_people_access.specs.declared.roles.Roles.{Roles}
@@ -15,6 +15,7 @@ use Rattle.lab_people_access.specs.declared.roles.Role.TheVariants.{Analyst, Adm
 use Rattle.lab_people_access.specs.Attempts.{attempt_by}
 use Rattle.lab_people_access.specs.Openings.{opening}
 use Rattle.lab_people_access.specs.Roles.{no_roles, with_role}
+use Rattle.lab_people_access.specs.Persons.{newcomer}
 use Rattle.lab_forms.specs.declared.forms.Field.{Field}
 use Rattle.lab_forms.specs.declared.kinds.Kind.TheVariants.{Text, YesNo}
 use Rattle.lab_forms.specs.Forms.{is_form}
@@ -32,6 +33,7 @@ use Rattle.lab_records_kept.specs.Digests.{digest_of, signature_of}
 use Rattle.lab_records_kept.specs.Bound.{IsBoundTo, IsSealed, IsBoundRecord, IsBound}
 use Rattle.lab_records_kept.specs.Dual.{EnteredNone, IsSignedDually, IsDualRecord, IsDual}
 use Rattle.lab_records_kept.proofs.ReleaseLemmas.{all_released}
+use Rattle.lab_records_kept.proofs.KnownDefaults.{bare_entry, bare_field, bare_form, bare_lab, bare_record, bare_told, bare_version}
 use Rattle.lab_records_machine.specs.declared.births.Founder.{Founder}
 use Rattle.lab_records_machine.specs.declared.births.Founding.{Founding}
 use Rattle.lab_records_machine.specs.declared.births.BirthRefusal.TheVariants.{CodeTaken, BadPassword, LabExists}
@@ -54,16 +56,7 @@ use Rattle.lab_records_laws.specs.Inspections.{AreCopiable, IfCopied, counts_wit
 -- ---- a laboratory as it is founded
 
 abbrev account : List ℕ → List ℕ → Role → Person
-account code name role = record {
-  code = code;
-  name = name;
-  roles = with_role no_roles role;
-  retired = false;
-  failures = 0;
-  locked = None;
-  password = Unset;
-  ask = None;
-}
+account code name role = newcomer code name (with_role no_roles role)
 
 abbrev ann : Person
 ann = account (codes "ann") (codes "Ann Ames") Administrator
@@ -79,24 +72,13 @@ dan = account (codes "dan") (codes "Dan Day") Analyst
 
 -- the first row of the trail
 abbrev first_row : TrailRow
-first_row = record {
-  number = 1;
-  moment = 0;
-  person = None;
-  action = action.Found;
-  subject = codes "aqua";
-}
+first_row = record bare_told { number = 1; action = action.Found; subject = codes "aqua" }
 
 abbrev with_persons : List Person → Lab
-with_persons persons = record {
+with_persons persons = record bare_lab {
   code = codes "aqua";
   name = codes "Aqua Lab";
-  last = 0;
-  strays = 0;
   persons = persons;
-  sessions = [];
-  forms = [];
-  records = [];
   trail = first_row ∷ [];
 }
 
@@ -181,12 +163,7 @@ known_newborn tick = refl
 
 -- a field that is answered by yes or no
 abbrev clear : Field
-clear = record {
-  key = codes "clear";
-  label = codes "Clear";
-  required = true;
-  kind = YesNo;
-}
+clear = record bare_field { key = codes "clear"; label = codes "Clear"; required = true; kind = YesNo }
 
 -- whoever makes a form of these fields
 abbrev making : List Field → Command
@@ -265,7 +242,7 @@ pub known_locked : (tick : Tick) (password : List ℕ) (verifier : VerifierParts
       last = 3099;
       trail =
           first_row
-          ∷ (record { number = 2; moment = 3099; person = Some (codes "ann"); action = action.Refuse; subject = codes "open" })
+          ∷ (record bare_told { number = 2; moment = 3099; person = Some (codes "ann"); action = action.Refuse; subject = codes "open" })
           ∷ [];
     })
 unfolding opening attempt_by
@@ -275,7 +252,7 @@ known_locked tick password verifier = refl
 
 -- the form of a record: whether the water is clear
 abbrev water : FormVersion
-water = record {
+water = record bare_form {
   code = codes "water";
   version = 1;
   form = record { fields = clear ∷ []; approval = false };
@@ -283,25 +260,21 @@ water = record {
 
 -- version 1, into which these persons entered a value each, with these signatures
 abbrev version : List (List ℕ) → List Signature → Version
-version persons signatures = record {
+version persons signatures = record bare_version {
   format = Two false;
-  origin = record { number = 1; amendment = None };
   opener = codes "dan";
   opened = 1000;
-  rows =
-      map (λ (person : List ℕ). record {
-        key = codes "clear";
-        value = codes "yes";
-        unit = [];
-        person = person;
-        moment = 1100;
-        reason = None;
-      }) persons;
+  rows = map (λ (person : List ℕ). record bare_entry {
+    key = codes "clear";
+    value = codes "yes";
+    person = person;
+    moment = 1100;
+  }) persons;
   signatures = signatures;
 }
 
 abbrev about : List Version → Record
-about versions = record { number = 1; form = water; sample = codes "S1"; versions = versions }
+about versions = record bare_record { number = 1; form = water; sample = codes "S1"; versions = versions }
 
 -- the digest of version 1, which covers no signature
 abbrev digest : List (List ℕ) → List ℕ

@@ -5,6 +5,7 @@ use Rattle.lab_forms_texts.specs.declared.tick.Tick.{Tick}
 use Rattle.lab_records_kept.specs.declared.changes.Change.{Change}
 use Rattle.lab_records_kept.specs.declared.changes.Change.TheVariants.{Last, Strays}
 use Rattle.lab_records_kept.specs.declared.labs.Lab.{Lab}
+use Rattle.lab_records_kept.proofs.KnownDefaults.{bare_lab}
 use Rattle.lab_records_machine.specs.declared.commands.Command.TheVariants.{Card as AsksCard}
 use Rattle.lab_records_machine.specs.declared.replies.Reply.TheVariants.{Card as ShowsCard, Refused}
 use Rattle.lab_records_rules.specs.declared.refusals.Refusal.TheVariants.{ClockBehind}
@@ -20,17 +21,7 @@ known_notes = (tt, refl, λ same. true≢false (sym (ap notes_a_moment same)))
 
 -- a laboratory whose last moment was 1100
 abbrev aqua : Lab
-aqua = record {
-  code = codes "aqua";
-  name = codes "Aqua Lab";
-  last = 1100;
-  strays = 0;
-  persons = [];
-  sessions = [];
-  forms = [];
-  records = [];
-  trail = [];
-}
+aqua = record bare_lab { code = codes "aqua"; name = codes "Aqua Lab"; last = 1100 }
 
 -- its card changes nothing, and is refused before the last moment
 pub known_card : (tick : Tick) → TakesStep aqua (record tick { moment = 1200 }) (record { token = None; command = AsksCard })

@@ -5,6 +5,7 @@ use Rattle.std.specs.Prelude.{codes}
 use Rattle.lab_people_access.specs.declared.passwords.Password.TheVariants.{Unset, Chosen}
 use Rattle.lab_people_access.specs.declared.persons.Person.{Person}
 use Rattle.lab_people_access.specs.Roles.{no_roles}
+use Rattle.lab_people_access.specs.Persons.{newcomer}
 use Rattle.lab_records_kept.specs.declared.trails.Deed.TheVariants.{Refuse, Lock, Entry, Sign as SignDeed}
 use Rattle.lab_records_kept.specs.declared.trails.Occasion.TheVariants.{Opening, Signing}
 use Rattle.lab_records_kept.specs.Trails.{trail_row_of}
@@ -21,15 +22,9 @@ use Rattle.lab_records_laws.specs.Telling.{giver, deed_of, is_told, failure_deed
 -- ---- who gives a command
 
 abbrev person : Person
-person = record {
-  code = codes "dan";
-  name = codes "Dan Day";
-  roles = no_roles;
-  retired = false;
+person = record (newcomer (codes "dan") (codes "Dan Day") no_roles) {
   failures = 3;
-  locked = None;
   password = Chosen (record { salt = []; rounds = 100000; bytes = [] }) 0;
-  ask = None;
 }
 
 given_by : (giver None Card ≡ None)

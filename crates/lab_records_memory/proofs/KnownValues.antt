@@ -4,13 +4,13 @@
 use Rattle.std.proofs.Common.{◌≡◌, ℕ, true, false, List, [], ◌∷◌, ◌++◌, map, replicate, Some, None, refl, ap, true≢false}
 use Rattle.std.specs.Prelude.{codes}
 use Rattle.std.specs.Str.{bytes_eq}
-use Rattle.lab_people_access.specs.declared.passwords.Password.TheVariants.{Unset}
 use Rattle.lab_people_access.specs.declared.persons.Person.{Person}
 use Rattle.lab_people_access.specs.declared.roles.Role.{Role}
 use Rattle.lab_people_access.specs.declared.roles.Role.TheVariants.{Analyst, Administrator}
 use Rattle.lab_people_access.specs.declared.sessions.Session.{Session}
 use Rattle.lab_people_access.specs.declared.sessions.Closing.TheVariants.{All}
 use Rattle.lab_people_access.specs.Roles.{no_roles, with_role}
+use Rattle.lab_people_access.specs.Persons.{newcomer}
 use Rattle.lab_records_kept.specs.declared.births.Newborn.{Newborn}
 use Rattle.lab_records_kept.specs.declared.changes.Change.TheVariants.{Last, Strays, PersonSet, SessionsClosed}
 use Rattle.lab_records_kept.specs.declared.labs.Lab.{Lab}
@@ -19,6 +19,7 @@ use Rattle.lab_records_kept.specs.declared.needs.Slice.{Slice}
 use Rattle.lab_records_kept.specs.declared.trails.Action.TheVariants.{Found}
 use Rattle.lab_records_kept.specs.Births.{newborn_lab}
 use Rattle.lab_records_kept.specs.Parts.{part_of}
+use Rattle.lab_records_kept.proofs.KnownDefaults.{bare_lab, bare_session, bare_told}
 use Rattle.lab_records_keeper.specs.Worlds.{Meaning, Places}
 use Rattle.lab_records_memory.specs.Lists.{lab_of, ChangesInPlace, world_of}
 use Rattle.lab_records_memory.proofs.Listing.{added_meaning}
@@ -26,41 +27,20 @@ use Rattle.lab_records_memory.proofs.Listing.{added_meaning}
 -- ---- two laboratories
 
 abbrev account : List ℕ → List ℕ → Role → Person
-account code name role = record {
-  code = code;
-  name = name;
-  roles = with_role no_roles role;
-  retired = false;
-  failures = 0;
-  locked = None;
-  password = Unset;
-  ask = None;
-}
+account code name role = newcomer code name (with_role no_roles role)
 
 -- dan's session of 900, by a token that both laboratories gave
 abbrev session : Session
-session = record {
-  number = 1;
-  person = codes "dan";
-  token = replicate 32 7;
-  opened = 900;
-  last = 1100;
-  closed = false;
-  signed = false;
-}
+session = record bare_session { number = 1; person = codes "dan"; token = replicate 32 7; opened = 900; last = 1100 }
 
 -- a laboratory of that code, name and dan, and no trail
 abbrev laboratory : List ℕ → List ℕ → List ℕ → Lab
-laboratory code name dan = record {
+laboratory code name dan = record bare_lab {
   code = code;
   name = name;
   last = 1100;
-  strays = 0;
   persons = account (codes "dan") dan Analyst ∷ [];
   sessions = session ∷ [];
-  forms = [];
-  records = [];
-  trail = [];
 }
 
 abbrev aqua : Lab
@@ -98,19 +78,13 @@ newborn = record {
 
 -- the laboratory: its founders by their codes, one row of the trail, which names nobody, and nothing else
 abbrev zinc : Lab
-zinc = record {
+zinc = record bare_lab {
   code = codes "zinc";
   name = codes "Zinc Lab";
   last = 2000;
-  strays = 0;
-  persons =
-      account (codes "ann") (codes "Ann Ames") Administrator ∷ account (codes "bob") (codes "Bob Bell") Administrator
+  persons = account (codes "ann") (codes "Ann Ames") Administrator ∷ account (codes "bob") (codes "Bob Bell") Administrator
       ∷ account (codes "cid") (codes "Cid Cole") Administrator ∷ [];
-  sessions = [];
-  forms = [];
-  records = [];
-  trail =
-      (record { number = 1; moment = 2000; person = None; action = Found; subject = codes "zinc" }) ∷ [];
+  trail = (record bare_told { number = 1; moment = 2000; action = Found; subject = codes "zinc" }) ∷ [];
 }
 
 -- what is founded is found whole by its code, and the two that were there as they were

@@ -18,6 +18,7 @@ use Rattle.lab_records_kept.specs.declared.records.Record.{Record}
 use Rattle.lab_records_kept.specs.declared.records.Signature.{Signature}
 use Rattle.lab_records_kept.specs.declared.records.Version.{Version}
 use Rattle.lab_records_kept.specs.Digests.{digest_of}
+use Rattle.lab_records_kept.proofs.KnownDefaults.{bare_entry, bare_field, bare_form, bare_record, bare_signature, bare_version}
 use Rattle.lab_records_rules.specs.declared.items.Item.{Item}
 use Rattle.lab_records_rules.specs.declared.refusals.Refusal.TheVariants.{Form, NoSuchRecord, NotOpen, ReasonWanted, NothingAltered, NotAltered, AmendmentOpen}
 use Rattle.lab_records_rules.specs.Making.{first_version}
@@ -26,13 +27,13 @@ use Rattle.lab_records_versions.specs.Entering.{entering, amending, is_table_mad
 -- ---- record 1 of the form water, of which lead is asked, in mg/L with two decimals, from 0 on
 
 abbrev lead : Field
-lead = record { key = codes "lead"; label = codes "Lead"; required = true; kind = Number (codes "mg/L") 2 (Some (codes "0")) None }
+lead = record bare_field { key = codes "lead"; label = codes "Lead"; required = true; kind = Number (codes "mg/L") 2 (Some (codes "0")) None }
 
 abbrev water : FormVersion
-water = record { code = codes "water"; version = 1; form = record { fields = lead ∷ []; approval = false } }
+water = record bare_form { code = codes "water"; version = 1; form = record { fields = lead ∷ []; approval = false } }
 
 abbrev row : List ℕ → ℕ → Option (List ℕ) → EntryRow
-row value moment reason = record {
+row value moment reason = record bare_entry {
   key = codes "lead";
   value = value;
   unit = codes "mg/L";
@@ -42,14 +43,14 @@ row value moment reason = record {
 }
 
 abbrev signature : List ℕ → Meaning → Signature
-signature person meaning = record { person = person; name = person; meaning = meaning; moment = 1300; digest = []; seal = [] }
+signature person meaning = record bare_signature { person = person; name = person; meaning = meaning; moment = 1300 }
 
 -- its version 1, which dan opened, with these rows and signatures
 abbrev version : List EntryRow → List Signature → Version
 version rows signatures = record (first_version false (codes "dan") 1000) { rows = rows; signatures = signatures }
 
 abbrev about : Version → Record
-about kept = record { number = 1; form = water; sample = codes "S1"; versions = kept ∷ [] }
+about kept = record bare_record { number = 1; form = water; sample = codes "S1"; versions = kept ∷ [] }
 
 abbrev empty : Version
 empty = version [] []
@@ -120,7 +121,7 @@ known_unamended = (refl, refl, refl, refl, refl, refl, refl)
 
 -- version 2, which dan opened at 1500: it names the digest of version 1, and each of its rows bears the reason
 abbrev second : Version
-second = record {
+second = record bare_version {
   format = released.format;
   origin = record {
     number = 2;
@@ -129,7 +130,6 @@ second = record {
   opener = codes "dan";
   opened = 1500;
   rows = row (codes "7.5") 1500 (Some (codes "misread")) ∷ [];
-  signatures = [];
 }
 
 pub known_amendment : amending (codes "aqua") (Some (about released)) (Some (codes "misread")) (lead_of (codes "7.5") ∷ []) (codes "dan") 1500

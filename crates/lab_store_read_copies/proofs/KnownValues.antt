@@ -7,6 +7,7 @@ use Rattle.lab_seal_versions.specs.declared.seals.Meaning.TheVariants.{Authorshi
 use Rattle.lab_records_kept.specs.declared.records.FormVersion.{FormVersion}
 use Rattle.lab_records_kept.specs.declared.records.Version.{Version}
 use Rattle.lab_records_kept.specs.declared.records.Signature.{Signature}
+use Rattle.lab_records_kept.proofs.KnownDefaults.{bare_entry, bare_signature}
 use Rattle.lab_store_tables.proofs.KnownFile.{filled, file}
 use Rattle.lab_store_tables.proofs.KnownValues.{aqua_record, older_version}
 use Rattle.lab_store_read_records.specs.declared.heads.LabHead.{LabHead}
@@ -65,17 +66,16 @@ known_formed = (
 -- ---- rows that go out
 
 abbrev entered : Entry
-entered = record {
+entered = record bare_entry {
   key = codes "lead";
   value = codes "8.00";
   unit = codes "mg/L";
   person = codes "dan";
   moment = 1500;
-  reason = None;
 }
 
 abbrev signed : Signature
-signed = record {
+signed = record bare_signature {
   person = codes "dan";
   name = codes "Dan Dale";
   meaning = Authorship;

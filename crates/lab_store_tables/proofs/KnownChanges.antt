@@ -2,10 +2,10 @@
 -- the change makes, and the other one as it was.
 use Rattle.std.proofs.Common.{◌≡◌, pos, true, false, [], ◌∷◌, Some, None, refl}
 use Rattle.std.specs.Prelude.{codes}
-use Rattle.lab_people_access.specs.declared.passwords.Password.TheVariants.{Unset}
 use Rattle.lab_people_access.specs.declared.persons.Person.{Person}
 use Rattle.lab_people_access.specs.declared.sessions.Session.{Session}
 use Rattle.lab_people_access.specs.declared.sessions.Closing.TheVariants.{All}
+use Rattle.lab_people_access.specs.Persons.{newcomer}
 use Rattle.lab_seal_versions.specs.declared.rows.EntryRow.{EntryRow as Entry}
 use Rattle.lab_seal_versions.specs.declared.versions.Format.TheVariants as format
 use Rattle.lab_forms.specs.declared.kinds.Kind.TheVariants.{Number, Text, Choice, Date, YesNo}
@@ -20,6 +20,7 @@ use Rattle.lab_records_kept.specs.declared.changes.Change.{Change}
 use Rattle.lab_records_kept.specs.declared.changes.Change.TheVariants.{Last, Strays, PersonAdded, PersonSet, SessionAdded, SessionSet, SessionsClosed, FormAdded, RecordAdded, RowAdded, VersionOpened, SignatureAdded, TrailAdded}
 use Rattle.lab_records_kept.specs.Changes.{change}
 use Rattle.lab_records_kept.specs.Digests.{digest_of}
+use Rattle.lab_records_kept.proofs.KnownDefaults.{bare_entry, bare_field, bare_form, bare_session, bare_signature, bare_told, bare_version}
 use Rattle.lab_store_tables.specs.Rows.{LabRow, Tables}
 use Rattle.lab_store_tables.specs.Columns.{format_number, format_in, roles_sum, roles_in, reason_column, meaning_in, kind_columns, action_in}
 use Rattle.lab_store_tables.specs.Meaning.{meaning}
@@ -54,33 +55,26 @@ known_names = (refl, refl, refl, refl, refl, refl, refl, refl, refl, refl, refl,
 -- ---- rows as they are written
 
 abbrev pub left : Person
-left = record {
-  code = codes "hal";
-  name = codes "Hal Hunt";
-  roles = record { analyst = true; reviewer = true; manager = true; administrator = true; inspector = true };
+left = record (newcomer (codes "hal") (codes "Hal Hunt") (record { analyst = true; reviewer = true; manager = true; administrator = true; inspector = true })) {
   retired = true;
   failures = 1;
-  locked = None;
-  password = Unset;
-  ask = None;
 }
 
 abbrev over : Session
-over = record {
+over = record bare_session {
   number = 3;
   person = codes "dan";
   token = filled 32 44;
   opened = 1590;
   last = 1600;
   closed = true;
-  signed = false;
 }
 
 abbrev wanted : Field
-wanted = record { key = codes "dust"; label = codes "Dust"; required = true; kind = YesNo }
+wanted = record bare_field { key = codes "dust"; label = codes "Dust"; required = true; kind = YesNo }
 
 abbrev approved : FormVersion
-approved = record { code = codes "air"; version = 3; form = record { fields = []; approval = true } }
+approved = record bare_form { code = codes "air"; version = 3; form = record { fields = []; approval = true } }
 
 pub known_rows :
     (person_row_of (pos 7) (pos 8) None left
@@ -114,13 +108,12 @@ known_last = (record { lab = aqua_row; found = refl; made = refl }, (refl, refl)
 -- ---- a row under the id 8, between none; it is the first of its version
 
 abbrev pub new_entry : Entry
-new_entry = record {
+new_entry = record bare_entry {
   key = codes "lead";
   value = codes "8.00";
   unit = codes "mg/L";
   person = codes "dan";
   moment = 1500;
-  reason = None;
 }
 
 abbrev pub entered : Tables
@@ -188,16 +181,7 @@ known_lock = (
 -- ---- bob is enrolled, between ann and dan, under the id 3
 
 abbrev pub bob : Person
-bob = record {
-  code = codes "bob";
-  name = codes "Bob Bell";
-  roles = record { analyst = false; reviewer = false; manager = true; administrator = true; inspector = false };
-  retired = false;
-  failures = 0;
-  locked = None;
-  password = Unset;
-  ask = None;
-}
+bob = newcomer (codes "bob") (codes "Bob Bell") (record { analyst = false; reviewer = false; manager = true; administrator = true; inspector = false })
 
 abbrev pub enrolled : Tables
 enrolled = put_person
@@ -225,15 +209,7 @@ known_closing = (record { lab = aqua_row; found = refl; made = refl }, (refl, re
 -- ---- ann opens a session, the third
 
 abbrev pub third : Session
-third = record {
-  number = 3;
-  person = codes "ann";
-  token = filled 32 44;
-  opened = 1590;
-  last = 1590;
-  closed = false;
-  signed = false;
-}
+third = record bare_session { number = 3; person = codes "ann"; token = filled 32 44; opened = 1590; last = 1590 }
 
 abbrev pub opened : Tables
 opened = in_lab (pos 7) (λ (one : LabRow). record one { sessions = 3 })
@@ -252,14 +228,13 @@ known_session = (
 -- ---- a version of a form, with a field and its two choices
 
 abbrev tried : FormVersion
-tried = record {
+tried = record bare_form {
   code = codes "air";
   version = 2;
   form = record {
-    fields = record {
+    fields = record bare_field {
       key = codes "smell";
       label = codes "Smell";
-      required = false;
       kind = Choice (codes "none" ∷ codes "some" ∷ []);
     } ∷ [];
     approval = false;
@@ -306,7 +281,7 @@ known_form = (
 -- version as that is now is read of the file, where no column says so
 
 abbrev left_out : Entry
-left_out = record {
+left_out = record bare_entry {
   key = codes "lead";
   value = codes "3.10";
   unit = codes "mg/L";
@@ -316,7 +291,7 @@ left_out = record {
 }
 
 abbrev pub amended : Version
-amended = record {
+amended = record bare_version {
   format = format.Two false;
   origin = record {
     number = 2;
@@ -328,7 +303,6 @@ amended = record {
   opener = codes "dan";
   opened = 1610;
   rows = left_out ∷ [];
-  signatures = [];
 }
 
 abbrev with_amended : Tables
@@ -366,7 +340,7 @@ known_version = (
 -- ---- a signature of that record's first version
 
 abbrev pub rejected : Signature
-rejected = record {
+rejected = record bare_signature {
   person = codes "eve";
   name = codes "Eve Eden";
   meaning = Rejection (codes "empty");
@@ -399,7 +373,7 @@ known_signature = (
 -- ---- a row of the trail, and the counter with it
 
 abbrev pub row : Told
-row = record {
+row = record bare_told {
   number = 13;
   moment = 1620;
   person = Some (codes "eve");
@@ -424,14 +398,7 @@ known_trail = (
 -- ---- record 3, with its first version, under an id between the others
 
 abbrev first : Version
-first = record {
-  format = format.Two false;
-  origin = record { number = 1; amendment = None };
-  opener = codes "dan";
-  opened = 1600;
-  rows = [];
-  signatures = [];
-}
+first = record bare_version { format = format.Two false; opener = codes "dan"; opened = 1600 }
 
 abbrev pub opened_record : Tables
 opened_record = put_version (version (pos 11) (pos 9) 1 2 (pos 2) 1600 None)
@@ -470,13 +437,12 @@ known_record = (
 -- ---- dan's session, which a request came by; brick's of the same token stays
 
 abbrev pub touched : Session
-touched = record {
+touched = record bare_session {
   number = 1;
   person = codes "dan";
   token = filled 32 41;
   opened = 900;
   last = 1600;
-  closed = false;
   signed = true;
 }
 

@@ -2,8 +2,8 @@
 -- ids that are free and aren't the next: the laboratory, and the two that were there as they were.
 use Rattle.std.proofs.Common.{◌≡◌, ℕ, pos, true, false, List, [], ◌∷◌, Some, None, refl}
 use Rattle.std.specs.Prelude.{codes}
-use Rattle.lab_people_access.specs.declared.passwords.Password.TheVariants.{Unset}
 use Rattle.lab_people_access.specs.declared.persons.Person.{Person}
+use Rattle.lab_people_access.specs.Persons.{newcomer}
 use Rattle.lab_seal_versions.specs.declared.versions.Format.TheVariants as format
 use Rattle.lab_forms.specs.declared.kinds.Kind.TheVariants.{Choice}
 use Rattle.lab_seal_versions.specs.declared.seals.Meaning.TheVariants.{Authorship}
@@ -13,6 +13,7 @@ use Rattle.lab_records_kept.specs.declared.records.Version.{Version}
 use Rattle.lab_records_kept.specs.declared.labs.Lab.{Lab}
 use Rattle.lab_records_kept.specs.declared.trails.Action.TheVariants as action
 use Rattle.lab_records_kept.specs.Births.{newborn_lab}
+use Rattle.lab_records_kept.proofs.KnownDefaults.{bare_entry, bare_field, bare_form, bare_lab, bare_record, bare_session, bare_signature, bare_told, bare_version}
 use Rattle.lab_store_tables.specs.Rows.{LabRow, Tables}
 use Rattle.lab_store_tables.specs.Meaning.{meaning}
 use Rattle.lab_store_tables.specs.Changes.{in_lab, put_person, put_session, put_form, put_field, put_choice, put_record, put_version, put_entry, put_signature, put_told, set_person}
@@ -25,16 +26,7 @@ abbrev AreThere : Tables → Type 0
 AreThere new = (meaning new (codes "aqua") ≡ Some aqua) × (meaning new (codes "brick") ≡ Some brick)
 
 abbrev founder : List ℕ → List ℕ → Person
-founder code name = record {
-  code = code;
-  name = name;
-  roles = record { analyst = false; reviewer = false; manager = false; administrator = true; inspector = false };
-  retired = false;
-  failures = 0;
-  locked = None;
-  password = Unset;
-  ask = None;
-}
+founder code name = newcomer code name (record { analyst = false; reviewer = false; manager = false; administrator = true; inspector = false })
 
 -- ---- a founding: the founders come in another order than that of their codes
 
@@ -98,11 +90,11 @@ known_founding = (
 -- ---- a whole laboratory: of its two persons the second asked for a one-time password of the first
 
 abbrev dirt : FormVersion
-dirt = record {
+dirt = record bare_form {
   code = codes "dirt";
   version = 1;
   form = record {
-    fields = record {
+    fields = record bare_field {
       key = codes "look";
       label = codes "Look";
       required = true;
@@ -113,20 +105,12 @@ dirt = record {
 }
 
 abbrev dry : Version
-dry = record {
+dry = record bare_version {
   format = format.Two true;
-  origin = record { number = 1; amendment = None };
   opener = codes "zoe";
   opened = 1910;
-  rows = record {
-    key = codes "look";
-    value = codes "dry";
-    unit = [];
-    person = codes "zoe";
-    moment = 1920;
-    reason = None;
-  } ∷ [];
-  signatures = record {
+  rows = record bare_entry { key = codes "look"; value = codes "dry"; person = codes "zoe"; moment = 1920 } ∷ [];
+  signatures = record bare_signature {
     person = codes "zoe";
     name = codes "Zoe Zink";
     meaning = Authorship;
@@ -137,7 +121,7 @@ dry = record {
 }
 
 abbrev clay : Lab
-clay = record {
+clay = record bare_lab {
   code = codes "clay";
   name = codes "Clay Lab";
   last = 1990;
@@ -145,24 +129,17 @@ clay = record {
   persons = record (founder (codes "amy") (codes "Amy Adde")) {
     ask = Some (record { asker = codes "zoe"; asked = 1950; first = verifier 9 10 });
   } ∷ founder (codes "zoe") (codes "Zoe Zink") ∷ [];
-  sessions = record {
+  sessions = record bare_session {
     number = 1;
     person = codes "zoe";
     token = filled 32 41;
     opened = 1900;
     last = 1990;
-    closed = false;
     signed = true;
   } ∷ [];
   forms = dirt ∷ [];
-  records = record { number = 1; form = dirt; sample = codes "S1"; versions = dry ∷ [] } ∷ [];
-  trail = record {
-    number = 1;
-    moment = 1880;
-    person = None;
-    action = action.Found;
-    subject = codes "clay";
-  } ∷ record {
+  records = record bare_record { number = 1; form = dirt; sample = codes "S1"; versions = dry ∷ [] } ∷ [];
+  trail = record bare_told { number = 1; moment = 1880; action = action.Found; subject = codes "clay" } ∷ record bare_told {
     number = 2;
     moment = 1930;
     person = Some (codes "zoe");

@@ -4,10 +4,11 @@ use Rattle.std.proofs.Common.{◌≡◌, ℕ, ◌+◌, ◌*◌, ℤ, pos, Bool, 
 use Rattle.std.specs.Prelude.{codes, reverse}
 use Rattle.lab_seal_hashes.specs.declared.verifiers.VerifierParts.{VerifierParts}
 use Rattle.lab_people_access.specs.declared.roles.Roles.{Roles}
-use Rattle.lab_people_access.specs.declared.passwords.Password.TheVariants.{Unset, Chosen, OneTime}
+use Rattle.lab_people_access.specs.declared.passwords.Password.TheVariants.{Chosen, OneTime}
 use Rattle.lab_people_access.specs.declared.persons.Person.{Person}
 use Rattle.lab_people_access.specs.declared.persons.Ask.{Ask}
 use Rattle.lab_people_access.specs.declared.sessions.Session.{Session}
+use Rattle.lab_people_access.specs.Persons.{newcomer}
 use Rattle.lab_forms.specs.declared.forms.Field.{Field}
 use Rattle.lab_forms.specs.declared.kinds.Kind.TheVariants.{Number, Text, Choice, Date, YesNo}
 use Rattle.lab_seal_versions.specs.declared.rows.EntryRow.{EntryRow as Entry}
@@ -21,6 +22,7 @@ use Rattle.lab_records_kept.specs.declared.trails.Action.TheVariants as action
 use Rattle.lab_records_kept.specs.declared.trails.TrailRow.{TrailRow as Told}
 use Rattle.lab_records_kept.specs.declared.labs.Lab.{Lab}
 use Rattle.lab_records_kept.specs.Digests.{digest_of}
+use Rattle.lab_records_kept.proofs.KnownDefaults.{bare_entry, bare_field, bare_form, bare_lab, bare_record, bare_session, bare_signature, bare_told, bare_version}
 use Rattle.lab_store_tables.specs.Rows.{DeskRow, LabRow, PersonRow, SessionRow, FormRow, FieldRow, ChoiceRow, RecordRow, VersionRow, EntryRow, SignatureRow, TrailRow, Tables, natural}
 use Rattle.lab_store_tables.specs.Meaning.{meaning}
 use Rattle.lab_store_tables.specs.WellKept.{are_ids_unique, are_keys_unique, are_arrows_whole, are_labs_apart, are_all_numbered, is_said_alike, is_desk, are_columns_whole}
@@ -42,58 +44,32 @@ roles analyst reviewer administrator inspector = record {
 }
 
 abbrev ann : Person
-ann = record {
-  code = codes "ann";
-  name = codes "Ann Ames";
-  roles = roles false false true false;
-  retired = false;
-  failures = 0;
-  locked = None;
+ann = record (newcomer (codes "ann") (codes "Ann Ames") (roles false false true false)) {
   password = Chosen (verifier 3 4) 500;
-  ask = None;
 }
 
 abbrev dan : Person
-dan = record {
-  code = codes "dan";
-  name = codes "Dan Dale";
-  roles = roles true false false false;
-  retired = false;
-  failures = 0;
-  locked = None;
+dan = record (newcomer (codes "dan") (codes "Dan Dale") (roles true false false false)) {
   password = Chosen (verifier 1 2) 500;
-  ask = None;
 }
 
 abbrev asked : Ask
 asked = record { asker = codes "ann"; asked = 1590; first = verifier 9 10 }
 
 abbrev pub eve : Person
-eve = record {
-  code = codes "eve";
-  name = codes "Eve Eden";
-  roles = roles false true false false;
-  retired = false;
-  failures = 0;
-  locked = None;
+eve = record (newcomer (codes "eve") (codes "Eve Eden") (roles false true false false)) {
   password = Chosen (verifier 5 6) 500;
   ask = Some asked;
 }
 
 abbrev hal : Person
-hal = record {
-  code = codes "hal";
-  name = codes "Hal Hunt";
-  roles = roles false false false true;
+hal = record (newcomer (codes "hal") (codes "Hal Hunt") (roles false false false true)) {
   retired = true;
-  failures = 0;
-  locked = None;
   password = OneTime (verifier 15 16) (verifier 17 18) 520;
-  ask = None;
 }
 
 abbrev session_of : ℕ → List ℕ → ℕ → ℕ → ℕ → Bool → Session
-session_of number person token opened last closed = record {
+session_of number person token opened last closed = record bare_session {
   number = number;
   person = person;
   token = filled 32 token;
@@ -104,7 +80,7 @@ session_of number person token opened last closed = record {
 }
 
 abbrev lead : Field
-lead = record {
+lead = record bare_field {
   key = codes "lead";
   label = codes "Lead";
   required = true;
@@ -112,18 +88,17 @@ lead = record {
 }
 
 abbrev note : Field
-note = record { key = codes "note"; label = codes "Note"; required = false; kind = Text 200 }
+note = record bare_field { key = codes "note"; label = codes "Note"; kind = Text 200 }
 
 abbrev look : Field
-look = record {
+look = record bare_field {
   key = codes "look";
   label = codes "Look";
-  required = false;
   kind = Choice (codes "clear" ∷ codes "cloudy" ∷ []);
 }
 
 abbrev trace : Field
-trace = record {
+trace = record bare_field {
   key = codes "lead";
   label = codes "Lead";
   required = true;
@@ -131,13 +106,13 @@ trace = record {
 }
 
 abbrev dust : Field
-dust = record { key = codes "dust"; label = codes "Dust"; required = true; kind = YesNo }
+dust = record bare_field { key = codes "dust"; label = codes "Dust"; required = true; kind = YesNo }
 
 abbrev day : Field
-day = record { key = codes "day"; label = codes "Day"; required = true; kind = Date }
+day = record bare_field { key = codes "day"; label = codes "Day"; required = true; kind = Date }
 
 abbrev form_of : List ℕ → ℕ → List Field → Bool → FormVersion
-form_of code number fields approval = record {
+form_of code number fields approval = record bare_form {
   code = code;
   version = number;
   form = record { fields = fields; approval = approval };
@@ -147,7 +122,7 @@ abbrev water : FormVersion
 water = form_of (codes "water") 1 (lead ∷ note ∷ look ∷ []) false
 
 abbrev entry_of : List ℕ → List ℕ → List ℕ → ℕ → Option (List ℕ) → Entry
-entry_of key value unit moment reason = record {
+entry_of key value unit moment reason = record bare_entry {
   key = key;
   value = value;
   unit = unit;
@@ -157,23 +132,22 @@ entry_of key value unit moment reason = record {
 }
 
 abbrev first_version : Version
-first_version = record {
+first_version = record bare_version {
   format = format.Two false;
-  origin = record { number = 1; amendment = None };
   opener = codes "dan";
   opened = 1000;
   rows = entry_of (codes "lead") (codes "7.05") (codes "mg/L") 1100 None
       ∷ entry_of (codes "lead") (codes "7.50") (codes "mg/L") 1200 (Some (codes "misread scale"))
       ∷ entry_of (codes "look") (codes "clear") [] 1210 None
       ∷ [];
-  signatures = record {
+  signatures = record bare_signature {
     person = codes "dan";
     name = codes "Dan Dale";
     meaning = Authorship;
     moment = 1300;
     digest = filled 32 21;
     seal = filled 32 23;
-  } ∷ record {
+  } ∷ record bare_signature {
     person = codes "eve";
     name = codes "Eve Eden";
     meaning = Review;
@@ -185,7 +159,7 @@ first_version = record {
 
 -- a record of aqua's, whatever its versions are
 abbrev pub aqua_record : ℕ → List ℕ → List Version → Record
-aqua_record number sample versions = record {
+aqua_record number sample versions = record bare_record {
   number = number;
   form = water;
   sample = sample;
@@ -198,7 +172,7 @@ first_digest =
 
 -- it amends the first version as that is now
 abbrev second_version : Version
-second_version = record {
+second_version = record bare_version {
   format = format.Two false;
   origin = record {
     number = 2;
@@ -207,21 +181,13 @@ second_version = record {
   opener = codes "dan";
   opened = 1400;
   rows = entry_of (codes "lead") (codes "7.5") (codes "mg/L") 1400 (Some (codes "one decimal is meant")) ∷ [];
-  signatures = [];
 }
 
 abbrev pub older_version : Version
-older_version = record {
-  format = format.One;
-  origin = record { number = 1; amendment = None };
-  opener = codes "dan";
-  opened = 1450;
-  rows = [];
-  signatures = [];
-}
+older_version = record bare_version { format = format.One; opener = codes "dan"; opened = 1450 }
 
 abbrev told_of : ℕ → ℕ → Option (List ℕ) → Action → List ℕ → Told
-told_of number moment person what subject = record {
+told_of number moment person what subject = record bare_told {
   number = number;
   moment = moment;
   person = person;
@@ -230,7 +196,7 @@ told_of number moment person what subject = record {
 }
 
 abbrev pub aqua : Lab
-aqua = record {
+aqua = record bare_lab {
   code = codes "aqua";
   name = codes "Aqua Lab";
   last = 1600;
@@ -260,20 +226,19 @@ abbrev day_form : FormVersion
 day_form = form_of (codes "water") 1 (day ∷ []) true
 
 abbrev wrong_version : Version
-wrong_version = record {
+wrong_version = record bare_version {
   format = format.Two true;
-  origin = record { number = 1; amendment = None };
   opener = codes "dan";
   opened = 300;
   rows = entry_of (codes "day") (codes "2026-01-02") [] 350 None ∷ [];
-  signatures = record {
+  signatures = record bare_signature {
     person = codes "dan";
     name = codes "Dan Drew";
     meaning = Authorship;
     moment = 400;
     digest = filled 32 24;
     seal = filled 32 25;
-  } ∷ record {
+  } ∷ record bare_signature {
     person = codes "ann";
     name = codes "Anna Arp";
     meaning = Rejection (codes "wrong day");
@@ -284,51 +249,29 @@ wrong_version = record {
 }
 
 abbrev brick_ann : Person
-brick_ann = record {
-  code = codes "ann";
-  name = codes "Anna Arp";
-  roles = roles false true true false;
-  retired = false;
-  failures = 0;
-  locked = None;
+brick_ann = record (newcomer (codes "ann") (codes "Anna Arp") (roles false true true false)) {
   password = Chosen (verifier 13 14) 20;
-  ask = None;
 }
 
 abbrev brick_dan : Person
-brick_dan = record {
-  code = codes "dan";
-  name = codes "Dan Drew";
-  roles = roles true false false false;
-  retired = false;
+brick_dan = record (newcomer (codes "dan") (codes "Dan Drew") (roles true false false false)) {
   failures = 5;
   locked = Some 700;
   password = Chosen (verifier 11 12) 20;
-  ask = None;
 }
 
 abbrev brick_max : Person
-brick_max = record {
-  code = codes "max";
-  name = codes "Max Moss";
-  roles = roles false false true false;
-  retired = false;
-  failures = 0;
-  locked = None;
-  password = Unset;
-  ask = None;
-}
+brick_max = newcomer (codes "max") (codes "Max Moss") (roles false false true false)
 
 abbrev pub brick : Lab
-brick = record {
+brick = record bare_lab {
   code = codes "brick";
   name = codes "Brick Lab";
   last = 700;
-  strays = 0;
   persons = brick_ann ∷ brick_dan ∷ brick_max ∷ [];
   sessions = session_of 1 (codes "dan") 41 100 400 false ∷ session_of 2 (codes "ann") 43 440 450 true ∷ [];
   forms = day_form ∷ [];
-  records = record { number = 1; form = day_form; sample = codes "S1"; versions = wrong_version ∷ [] } ∷ [];
+  records = record bare_record { number = 1; form = day_form; sample = codes "S1"; versions = wrong_version ∷ [] } ∷ [];
   trail = told_of 1 0 None action.Found (codes "brick")
       ∷ told_of 2 300 (Some (codes "dan")) action.Record (codes "1")
       ∷ told_of 3 350 (Some (codes "dan")) action.Entry (codes "1/1/day")

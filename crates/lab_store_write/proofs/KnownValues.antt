@@ -9,6 +9,7 @@ use Rattle.lab_store_write.specs.Ids.{id_read}
 use Rattle.lab_store_write.specs.Shown.{persons_shown}
 use Rattle.lab_records_kept.specs.declared.trails.Action.TheVariants.{Lock}
 use Rattle.lab_records_kept.specs.declared.trails.TrailRow.{TrailRow as Told}
+use Rattle.lab_records_kept.proofs.KnownDefaults.{bare_told}
 use Rattle.lab_store_write.specs.TrailAdded.{with_told}
 
 -- one row, which shows an id
@@ -21,7 +22,7 @@ pub known_shown : (persons_shown (pos 7) (codes "dan") file ≡ only (pos 2)) ×
 known_shown = (refl, refl, refl, refl)
 
 abbrev locked : Told
-locked = record { number = 13; moment = 1600; person = None; action = Lock; subject = codes "dan" }
+locked = record bare_told { number = 13; moment = 1600; action = Lock; subject = codes "dan" }
 
 -- it has the next id of its table, and stands behind the others
 pub known_added :

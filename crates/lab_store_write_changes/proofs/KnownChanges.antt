@@ -2,23 +2,14 @@
 use Rattle.std.proofs.Common.{refl, pos, [], ◌∷◌, true≢false}
 use Rattle.std.specs.Prelude.{codes}
 use Rattle.lab_records_kept.specs.declared.labs.Lab.{Lab}
+use Rattle.lab_records_kept.proofs.KnownDefaults.{bare_lab}
 use Rattle.lab_store_tables.specs.Rows.{Tables}
 use Rattle.lab_store_tables.proofs.KnownFile.{file, lab}
 use Rattle.lab_store_tables.proofs.KnownValues.{eve}
 use Rattle.lab_store_write_changes.specs.NewbornRows.{AddsLab}
 
 abbrev zinc : Lab
-zinc = record {
-  code = codes "zinc";
-  name = codes "Zinc Lab";
-  last = 2000;
-  strays = 0;
-  persons = eve ∷ [];
-  sessions = [];
-  forms = [];
-  records = [];
-  trail = [];
-}
+zinc = record bare_lab { code = codes "zinc"; name = codes "Zinc Lab"; last = 2000; persons = eve ∷ [] }
 
 -- the row says that no number was given yet, whatever the laboratory has, and stands at the place of its id
 abbrev with_zinc : Tables

@@ -7,6 +7,7 @@ use Rattle.sqlite_value.specs.Order.{Row}
 use Rattle.lab_seal_versions.specs.declared.seals.Meaning.TheVariants.{Rejection}
 use Rattle.lab_seal_versions.specs.declared.rows.EntryRow.{EntryRow as Entry}
 use Rattle.lab_records_kept.specs.declared.records.Signature.{Signature}
+use Rattle.lab_records_kept.proofs.KnownDefaults.{bare_entry, bare_signature}
 use Rattle.lab_store_tables.proofs.KnownFile.{filled, file, entry, signature}
 use Rattle.lab_store_write_records.specs.EntriesAdded.{with_entry, with_signature}
 use Rattle.lab_store_write_records.specs.VersionsShown.{records_shown, current_of, version_in_record, versions_shown, record_key_of}
@@ -38,17 +39,16 @@ known_parents = (refl, refl, refl)
 -- ---- rows more: each has the next id of its table, whichever its place is
 
 abbrev noted : Entry
-noted = record {
+noted = record bare_entry {
   key = codes "note";
   value = codes "new";
-  unit = [];
   person = codes "dan";
   moment = 1500;
   reason = Some (codes "forgotten");
 }
 
 abbrev rejected : Signature
-rejected = record {
+rejected = record bare_signature {
   person = codes "eve";
   name = codes "Eve Eden";
   meaning = Rejection (codes "smudged");

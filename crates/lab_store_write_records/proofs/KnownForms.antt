@@ -7,6 +7,7 @@ use Rattle.sqlite_value.specs.Order.{Row}
 use Rattle.lab_forms.specs.declared.forms.Field.{Field}
 use Rattle.lab_forms.specs.declared.kinds.Kind.TheVariants.{YesNo}
 use Rattle.lab_records_kept.specs.declared.records.FormVersion.{FormVersion}
+use Rattle.lab_records_kept.proofs.KnownDefaults.{bare_field, bare_form}
 use Rattle.lab_store_tables.proofs.KnownFile.{file, plainly, form, field, choice}
 use Rattle.lab_store_write_records.specs.FormsAdded.{with_choice, with_field, with_form}
 use Rattle.lab_store_write_records.proofs.FieldsShownWords.{fields_shown, choices_shown}
@@ -25,10 +26,10 @@ known_parents = (refl, refl, refl)
 -- ---- rows more: each has the next id of its table, whichever its place is
 
 abbrev wanted : Field
-wanted = record { key = codes "mould"; label = codes "Mould"; required = true; kind = YesNo }
+wanted = record bare_field { key = codes "mould"; label = codes "Mould"; required = true; kind = YesNo }
 
 abbrev approved : FormVersion
-approved = record { code = codes "air"; version = 2; form = record { fields = wanted ∷ []; approval = true } }
+approved = record bare_form { code = codes "air"; version = 2; form = record { fields = wanted ∷ []; approval = true } }
 
 pub known_leaves :
     ((with_choice (pos 4) 3 (codes "red") file).choices ≡ file.choices ++ choice (pos 3) (pos 4) 3 (codes "red") ∷ [])

@@ -14,6 +14,7 @@ use Rattle.lab_forms.specs.declared.kinds.Kind.TheVariants.{Number, Text, Choice
 use Rattle.lab_records_kept.specs.declared.records.FormVersion.{FormVersion}
 use Rattle.lab_records_kept.specs.declared.records.Signature.{Signature}
 use Rattle.lab_records_kept.specs.declared.trails.Action.TheVariants.{Found, Amend}
+use Rattle.lab_records_kept.proofs.KnownDefaults.{bare_entry, bare_field, bare_form, bare_record, bare_signature, bare_told, bare_version}
 use Rattle.lab_seal_versions.specs.declared.seals.Meaning.TheVariants.{Authorship, Review, Rejection, Approval}
 use Rattle.lab_seal_versions.specs.declared.states.State.TheVariants as state
 use Rattle.lab_seal_versions.specs.declared.rows.EntryRow.{EntryRow}
@@ -90,15 +91,15 @@ unfolding serde_json_on_literals digits
 known_retired = refl
 
 abbrev water : FormVersion
-water = record {
+water = record bare_form {
   code = codes "water";
   version = 1;
   form = record {
     fields =
-        record { key = codes "lead"; label = codes "Lead"; required = true; kind = Number (codes "mg/L") 2 (Some (codes "0")) None }
-        ∷ record { key = codes "note"; label = codes "Note"; required = false; kind = Text 200 }
-        ∷ record { key = codes "odor"; label = codes "Odor"; required = false; kind = Choice (codes "none" ∷ codes "some" ∷ []) }
-        ∷ record { key = codes "day"; label = codes "Day"; required = false; kind = Date }
+        record bare_field { key = codes "lead"; label = codes "Lead"; required = true; kind = Number (codes "mg/L") 2 (Some (codes "0")) None }
+        ∷ record bare_field { key = codes "note"; label = codes "Note"; kind = Text 200 }
+        ∷ record bare_field { key = codes "odor"; label = codes "Odor"; kind = Choice (codes "none" ∷ codes "some" ∷ []) }
+        ∷ record bare_field { key = codes "day"; label = codes "Day"; kind = Date }
         ∷ [];
     approval = false;
   };
@@ -116,24 +117,23 @@ known_forms = (refl, refl)
 
 -- a form that wants an approval, with a bound above and a question that is answered by yes or no
 abbrev air : FormVersion
-air = record {
+air = record bare_form {
   code = codes "air";
   version = 3;
   form = record {
     fields =
-        record {
+        record bare_field {
           key = codes "dust";
           label = codes "Dust";
           required = true;
           kind = Number (codes "mg/m3") 1 None (Some (codes "9.5"));
         }
-        ∷ record {
+        ∷ record bare_field {
           key = codes "heat";
           label = codes "Heat";
-          required = false;
           kind = Number [] 0 (Some (codes "-40")) (Some (codes "85"));
         }
-        ∷ record { key = codes "clean"; label = codes "Clean"; required = true; kind = YesNo } ∷ [];
+        ∷ record bare_field { key = codes "clean"; label = codes "Clean"; required = true; kind = YesNo } ∷ [];
     approval = true;
   };
 }
@@ -155,7 +155,7 @@ unfolding serde_json_on_literals digits encode_with
 known_entries = (refl, refl, refl)
 
 abbrev author : Signature
-author = record {
+author = record bare_signature {
   person = codes "dan";
   name = codes "Dan Day";
   meaning = Authorship;
@@ -171,7 +171,7 @@ known_signatures = refl
 
 -- a reviewer's, an approver's, and one that rejects, with its reason
 abbrev reviewer : Signature
-reviewer = record {
+reviewer = record bare_signature {
   person = codes "eve";
   name = codes "Eve Ede";
   meaning = Review;
@@ -181,7 +181,7 @@ reviewer = record {
 }
 
 abbrev approver : Signature
-approver = record {
+approver = record bare_signature {
   person = codes "fay";
   name = codes "Fay Foe";
   meaning = Approval;
@@ -191,7 +191,7 @@ approver = record {
 }
 
 abbrev rejecter : Signature
-rejecter = record {
+rejecter = record bare_signature {
   person = codes "eve";
   name = codes "Eve Ede";
   meaning = Rejection (codes "wrong \"unit\"");
@@ -217,12 +217,11 @@ unfolding serde_json_on_literals digits encode_with moment_text year_of place_in
 known_later_signatures = (refl, refl, refl, refl)
 
 pub known_records :
-    (reply_text (reply.RecordRead (record {
+    (reply_text (reply.RecordRead (record bare_record {
       number = 1;
       form = water;
       sample = codes "S1";
-      versions =
-          record { version = 1; state = Some state.Released; digest = 171 ∷ [] }
+      versions = record { version = 1; state = Some state.Released; digest = 171 ∷ [] }
           ∷ record { version = 2; state = Some state.Open; digest = 205 ∷ [] } ∷ [];
     }))
     ≡ codes "{\"current\":2,\"form\":\"water\",\"form_version\":1,\"record\":1,\"sample\":\"S1\",\"versions\":["
@@ -241,12 +240,11 @@ known_records = (refl, refl, refl)
 
 -- versions that were reviewed and rejected; null stands in place of what is not there
 pub known_states :
-    (reply_text (reply.RecordRead (record {
+    (reply_text (reply.RecordRead (record bare_record {
       number = 2;
       form = air;
       sample = codes "S2";
-      versions =
-          record { version = 1; state = Some state.Rejected; digest = 171 ∷ [] }
+      versions = record { version = 1; state = Some state.Rejected; digest = 171 ∷ [] }
           ∷ record { version = 2; state = Some state.Reviewed; digest = 205 ∷ [] }
           ∷ record { version = 3; state = None; digest = 206 ∷ [] } ∷ [];
     }))
@@ -254,12 +252,7 @@ pub known_states :
     ++ codes "\"versions\":[{\"digest\":\"ab\",\"state\":\"rejected\",\"version\":1},"
     ++ codes "{\"digest\":\"cd\",\"state\":\"reviewed\",\"version\":2},{\"digest\":\"ce\","
     ++ codes "\"state\":null,\"version\":3}]}")
-    × (reply_text (reply.RecordRead (record {
-      number = 2;
-      form = air;
-      sample = codes "S2";
-      versions = [];
-    }))
+    × (reply_text (reply.RecordRead (record bare_record { number = 2; form = air; sample = codes "S2" }))
     ≡ codes "{\"current\":null,\"form\":\"air\",\"form_version\":3,\"record\":2,\"sample\":\"S2\","
     ++ codes "\"versions\":[]}")
     × (reply_text (reply.Records (record {
@@ -275,22 +268,20 @@ unfolding serde_json_on_literals digits encode_with
 known_states = (refl, refl, refl)
 
 abbrev lead : EntryRow
-lead = record {
+lead = record bare_entry {
   key = codes "lead";
   value = codes "7.50";
   unit = codes "mg/L";
   person = codes "dan";
   moment = 1100;
-  reason = None;
 }
 
 pub known_versions : reply_text (reply.VersionRead (record {
   number = 1;
   form = water;
   sample = codes "S1";
-  version = record {
+  version = record bare_version {
     format = format.Two false;
-    origin = record { number = 1; amendment = None };
     opener = codes "dan";
     opened = 1000;
     rows = lead ∷ [];
@@ -312,7 +303,7 @@ known_versions = refl
 
 -- an amendment, with its reason, in the older format, of a record whose form wants an approval
 abbrev dust : EntryRow
-dust = record {
+dust = record bare_entry {
   key = codes "dust";
   value = codes "0.5";
   unit = codes "mg/m3";
@@ -325,7 +316,7 @@ pub known_amendments : reply_text (reply.VersionRead (record {
   number = 2;
   form = air;
   sample = codes "S2";
-  version = record {
+  version = record bare_version {
     format = format.One;
     origin = record {
       number = 2;
@@ -357,7 +348,7 @@ unfolding serde_json_on_literals digits encode_with moment_text year_of place_in
 known_amendments = refl
 
 -- a row of somebody
-pub known_deeds : reply_text (reply.Trail (record {
+pub known_deeds : reply_text (reply.Trail (record bare_told {
   number = 27;
   moment = 1550;
   person = Some (codes "dan");
@@ -369,13 +360,7 @@ pub known_deeds : reply_text (reply.Trail (record {
 unfolding serde_json_on_literals digits moment_text year_of place_in_year month_of day_of_month hour_of minute_of second_of span_of place_of
 known_deeds = refl
 
-pub known_trails : reply_text (reply.Trail (record {
-  number = 1;
-  moment = 0;
-  person = None;
-  action = Found;
-  subject = codes "aqua";
-} ∷ []))
+pub known_trails : reply_text (reply.Trail (record bare_told { number = 1; action = Found; subject = codes "aqua" } ∷ []))
     ≡ codes "{\"trail\":[{\"action\":\"found\",\"moment\":\"1970-01-01T00:00:00Z\",\"number\":1,\"person\":\"\",\"subject\":\"aqua\"}]}"
 unfolding serde_json_on_literals digits moment_text year_of place_in_year month_of day_of_month hour_of minute_of second_of span_of place_of
 known_trails = refl

@@ -9,6 +9,7 @@ use Rattle.lab_people_access.specs.declared.roles.Role.TheVariants.{Analyst, Rev
 use Rattle.lab_people_access.specs.Roles.{no_roles, with_role}
 use Rattle.lab_forms.specs.declared.kinds.Kind.TheVariants.{Number, Date}
 use Rattle.lab_records_kept.specs.declared.records.FormVersion.{FormVersion}
+use Rattle.lab_records_kept.proofs.KnownDefaults.{bare_field, bare_form}
 use Rattle.lab_seal_versions.specs.declared.states.State.TheVariants.{Released}
 use Rattle.lab_records_rules.specs.declared.refusals.Refusal.TheVariants.{NoSuchLab, People, RecordExists, NotAltered}
 use Rattle.lab_wire_replies.specs.Parts.{text_or_empty, state_data, current_data}
@@ -52,13 +53,13 @@ known_nothing = (refl, refl, refl, refl, refl, refl)
 
 -- a number's bounds stand where they are there
 abbrev water : FormVersion
-water = record {
+water = record bare_form {
   code = codes "water";
   version = 2;
   form = record {
     fields =
-        (record { key = codes "lead"; label = codes "Lead"; required = true; kind = Number (codes "mg/L") 2 (Some (codes "0")) None })
-        ∷ (record { key = codes "day"; label = codes "Day"; required = false; kind = Date })
+        (record bare_field { key = codes "lead"; label = codes "Lead"; required = true; kind = Number (codes "mg/L") 2 (Some (codes "0")) None })
+        ∷ (record bare_field { key = codes "day"; label = codes "Day"; kind = Date })
         ∷ [];
     approval = true;
   };
