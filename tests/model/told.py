@@ -29,26 +29,26 @@ Signed laboratory records
 Usage: labdesk <COMMAND>
 
 Commands:
-  found     Found a laboratory in a file, from the body of standard input
-  serve     Serve the laboratories of a file, on a port of this machine
+  found     Found a laboratory in a file, as standard input describes it
+  serve     Serve the laboratories of a file on a port of this machine
   copy      Write the inspection copy of a laboratory's records to standard output
   migrate   Move the laboratories of a file of schema 2 into a new file
-  check     Check the inspection copy of standard input, and tell what is found
-  replay    Run the events of standard input, and write their answers to standard output
-  rehearse  Found a laboratory from the body of standard input, and ask for its card
+  check     Check the inspection copy on standard input, and print the result
+  replay    Run the events on standard input, and write their answers to standard output
+  rehearse  Found a laboratory in memory, as standard input describes it, and print its card
   help      Print this message or the help of the given subcommand(s)
 
 Options:
   -h, --help     Print help
   -V, --version  Print version
 
-What goes in and comes out is described in docs/FORMATS.md. An example:
+docs/FORMATS.md describes what each command reads and prints. An example:
 
     labdesk found --file laboratories --lab aqua < examples/founding.json
     labdesk serve --file laboratories --port 8080
 """,
     "found": """\
-Found a laboratory in a file, from the body of standard input
+Found a laboratory in a file, as standard input describes it
 
 Usage: labdesk found --file <F> --lab <L> < FOUNDING
 
@@ -58,25 +58,25 @@ Options:
   -h, --help      Print help
 
 It founds a laboratory in the file, at the moment of the clock, and prints `founded` and its
-code. A file is made where there is none, and stays where the founding is refused. The input is a
-JSON object: the laboratory's `name`, and three `founders`, each with `code`, `name` and
-`password`. It is described in docs/FORMATS.md. An example:
+code. It makes the file if there is none; if the founding is refused, the new file stays. The input
+is a JSON object: the laboratory's `name`, and three `founders`, each with `code`, `name` and
+`password`. docs/FORMATS.md describes it. An example:
 
     labdesk found --file laboratories --lab aqua < examples/founding.json
 """,
     "serve": """\
-Serve the laboratories of a file, on a port of this machine
+Serve the laboratories of a file on a port of this machine
 
 Usage: labdesk serve [OPTIONS] --file <F> --port <P>
 
 Options:
       --file <F>   Path of the file of laboratories
-      --port <P>   Port of this machine, 0 for any that is free
-      --count <K>  How many connections are served [default: 1000000]
+      --port <P>   Port of this machine; 0 means any free port
+      --count <K>  Number of connections to serve [default: 1000000]
   -h, --help       Print help
 
-It prints `listening` and its address once clients can connect, serves so many connections one
-after the other, and ends. Requests and replies are described in docs/HTTP.md. An example:
+It prints `listening` and its address once clients can connect. It serves K connections, one at
+a time, and then it ends. docs/HTTP.md describes requests and replies. An example:
 
     labdesk serve --file laboratories --port 8080
 """,
@@ -92,8 +92,8 @@ Options:
       --to <B>    Number of the last record, up to 1000000000
   -h, --help      Print help
 
-It writes the inspection copy of the laboratory's records of these numbers to standard output.
-A copy is described in docs/COPIES.md. An example:
+It writes the inspection copy of the laboratory's records from A to B to standard output.
+docs/COPIES.md describes a copy. An example:
 
     labdesk copy --file laboratories --lab aqua --from 1 --to 100 > copy.csv
 """,
@@ -107,47 +107,47 @@ Options:
       --new <G>  Path of the new file
   -h, --help     Print help
 
-It moves every laboratory of an old file, one of schema 2, into a new file, and prints
-`migrated` and how many they were. Versions keep their texts, digests and signatures. The old file
-is read with its log, and stays as it is, byte for byte. The new file is made; one that is there has
-to be empty. If the move fails, the new file stays, and no command opens it. It is described in
-docs/FORMATS.md. An example:
+It moves every laboratory of an old file, which has schema 2, into a new file, and prints
+`migrated` and the number of laboratories. Versions keep their texts, digests and signatures. It
+reads the old file with its log, and leaves the old file as it is, byte for byte. It makes the new
+file; a file that is already there must be empty. If the move fails, the new file stays, and no
+command opens it. docs/FORMATS.md describes the move. An example:
 
     labdesk migrate --old laboratories --new laboratories-3
 """,
     "check": """\
-Check the inspection copy of standard input, and tell what is found
+Check the inspection copy on standard input, and print the result
 
 Usage: labdesk check < COPY
 
 Options:
   -h, --help  Print help
 
-It tells `good` and how many records, versions, entries and signatures the copy has, or
-`bad`, what is wrong first, and the row. The input is CSV, as `labdesk copy` writes it, and is
-described in docs/COPIES.md. An example:
+It prints `good` and the numbers of records, versions, entries and signatures in the copy, or
+`bad`, the first flaw and its row. The input is CSV, as `labdesk copy` writes it. docs/COPIES.md
+describes it. An example:
 
     labdesk check < copy.csv
 """,
     "replay": """\
-Run the events of standard input, and write their answers to standard output
+Run the events on standard input, and write their answers to standard output
 
 Usage: labdesk replay < EVENTS
 
 Options:
   -h, --help  Print help
 
-An event is a line, and right after it as many bytes as the line's last number says:
+An event is a line, followed by as many bytes as the last number of the line says:
 
     found <lab> <seconds> <word> <length>
     call <seconds> <word> <length>
 
-The input is described in docs/FORMATS.md. An example:
+docs/FORMATS.md describes the input. An example:
 
     labdesk replay < examples/two-laboratories.events
 """,
     "rehearse": """\
-Found a laboratory from the body of standard input, and ask for its card
+Found a laboratory in memory, as standard input describes it, and print its card
 
 Usage: labdesk rehearse --lab <L> --moment <S> < FOUNDING
 
@@ -156,9 +156,9 @@ Options:
       --moment <S>  Seconds since 1970-01-01T00:00:00Z
   -h, --help        Print help
 
-It founds the laboratory in memory, at the first of all moments, asks for its card over a
-socket of this machine at the given moment, and prints the reply. The input is a JSON object, as
-that of `labdesk found`, and is described in docs/FORMATS.md. An example:
+It founds the laboratory in memory, at moment 0. Then it asks for the laboratory's card over a
+socket of this machine, at moment S, and prints the reply. The input is a JSON object, like that of
+`labdesk found`. docs/FORMATS.md describes it. An example:
 
     labdesk rehearse --lab aqua --moment 100 < examples/founding.json
 """,
@@ -186,7 +186,7 @@ NONE = ("error: 'labdesk' requires a subcommand but one was not provided\n  [sub
         f"\n\nUsage: labdesk <COMMAND>\n{TRY}")
 MIGRATE = "labdesk migrate --old <F> --new <G>"
 REHEARSE = "labdesk rehearse --lab <L> --moment <S> < FOUNDING"
-BACKWARDS = ("error: the number of '--from <A>' is above that of '--to <B>'\n\nUsage: labdesk copy --file <F> --lab <L> --from <A> --to <B>\n"
+BACKWARDS = ("error: the number after '--from' is greater than the number after '--to'\n\nUsage: labdesk copy --file <F> --lab <L> --from <A> --to <B>\n"
              + TRY)
 TWICE = f"error: the argument '--lab <L>' cannot be used multiple times\n\nUsage: {REHEARSE}\n{TRY}"
 NO_VALUE = f"error: a value is required for '--moment <S>' but none was supplied\n{TRY}"

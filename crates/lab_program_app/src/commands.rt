@@ -11,60 +11,60 @@ use std::alloc::{AllocError, Global};
 /// The help of `found`.
 const FOUNDING: &str =
     "It founds a laboratory in the file, at the moment of the clock, and prints `founded` and its
-code. A file is made where there is none, and stays where the founding is refused. The input is a
-JSON object: the laboratory's `name`, and three `founders`, each with `code`, `name` and
-`password`. It is described in docs/FORMATS.md. An example:
+code. It makes the file if there is none; if the founding is refused, the new file stays. The input
+is a JSON object: the laboratory's `name`, and three `founders`, each with `code`, `name` and
+`password`. docs/FORMATS.md describes it. An example:
 
     labdesk found --file laboratories --lab aqua < examples/founding.json";
 
 /// The help of `serve`.
 const SERVING: &str =
-    "It prints `listening` and its address once clients can connect, serves so many connections one
-after the other, and ends. Requests and replies are described in docs/HTTP.md. An example:
+    "It prints `listening` and its address once clients can connect. It serves K connections, one at
+a time, and then it ends. docs/HTTP.md describes requests and replies. An example:
 
     labdesk serve --file laboratories --port 8080";
 
 /// The help of `copy`.
 const COPYING: &str =
-    "It writes the inspection copy of the laboratory's records of these numbers to standard output.
-A copy is described in docs/COPIES.md. An example:
+    "It writes the inspection copy of the laboratory's records from A to B to standard output.
+docs/COPIES.md describes a copy. An example:
 
     labdesk copy --file laboratories --lab aqua --from 1 --to 100 > copy.csv";
 
 /// The help of `migrate`.
 const MIGRATING: &str =
-    "It moves every laboratory of an old file, one of schema 2, into a new file, and prints
-`migrated` and how many they were. Versions keep their texts, digests and signatures. The old file
-is read with its log, and stays as it is, byte for byte. The new file is made; one that is there has
-to be empty. If the move fails, the new file stays, and no command opens it. It is described in
-docs/FORMATS.md. An example:
+    "It moves every laboratory of an old file, which has schema 2, into a new file, and prints
+`migrated` and the number of laboratories. Versions keep their texts, digests and signatures. It
+reads the old file with its log, and leaves the old file as it is, byte for byte. It makes the new
+file; a file that is already there must be empty. If the move fails, the new file stays, and no
+command opens it. docs/FORMATS.md describes the move. An example:
 
     labdesk migrate --old laboratories --new laboratories-3";
 
 /// The help of `check`.
 const CHECKING: &str =
-    "It tells `good` and how many records, versions, entries and signatures the copy has, or
-`bad`, what is wrong first, and the row. The input is CSV, as `labdesk copy` writes it, and is
-described in docs/COPIES.md. An example:
+    "It prints `good` and the numbers of records, versions, entries and signatures in the copy, or
+`bad`, the first flaw and its row. The input is CSV, as `labdesk copy` writes it. docs/COPIES.md
+describes it. An example:
 
     labdesk check < copy.csv";
 
 /// The help of `replay`, about its input.
 const REPLAYING: &str =
-    "An event is a line, and right after it as many bytes as the line's last number says:
+    "An event is a line, followed by as many bytes as the last number of the line says:
 
     found <lab> <seconds> <word> <length>
     call <seconds> <word> <length>
 
-The input is described in docs/FORMATS.md. An example:
+docs/FORMATS.md describes the input. An example:
 
     labdesk replay < examples/two-laboratories.events";
 
 /// The help of `rehearse`.
 const REHEARSING: &str =
-    "It founds the laboratory in memory, at the first of all moments, asks for its card over a
-socket of this machine at the given moment, and prints the reply. The input is a JSON object, as
-that of `labdesk found`, and is described in docs/FORMATS.md. An example:
+    "It founds the laboratory in memory, at moment 0. Then it asks for the laboratory's card over a
+socket of this machine, at moment S, and prints the reply. The input is a JSON object, like that of
+`labdesk found`. docs/FORMATS.md describes it. An example:
 
     labdesk rehearse --lab aqua --moment 100 < examples/founding.json";
 
@@ -127,7 +127,7 @@ fn port_argument<'a>(alloc: Global) -> Arg<'a>
     ensures rule { rule_of result ≡ port_rule }
     ensures local { result.global ≡ false }
 {
-    let help = "Port of this machine, 0 for any that is free";
+    let help = "Port of this machine; 0 means any free port";
     wanted_argument(alloc, "port", "P", help).value_parser(value_parser!(u16))
 }
 
@@ -136,7 +136,7 @@ fn count_argument<'a>(alloc: Global) -> Arg<'a>
     ensures rule { rule_of result ≡ count_rule }
     ensures local { result.global ≡ false }
 {
-    named_argument(alloc, "count", "K", "How many connections are served")
+    named_argument(alloc, "count", "K", "Number of connections to serve")
         .default_value("1000000")
         .value_parser(value_parser!(u32).range(1..=MOST_CONNECTIONS))
 }
@@ -227,7 +227,7 @@ fn with_old_and_new<'a>(alloc: Global, bare: Command<'a>) -> Result<Command<'a>,
 pub fn found_command<'a>(alloc: Global) -> Result<Command<'a>, AllocError>
     ensures { IfOk result (λ command. app_of command ≡ found_app) }
 {
-    let about = "Found a laboratory in a file, from the body of standard input";
+    let about = "Found a laboratory in a file, as standard input describes it";
     let usage = "labdesk found --file <F> --lab <L> < FOUNDING";
     let bare = reading_command(alloc, "found", about, FOUNDING, usage);
     with_file_and_lab(alloc, bare)
@@ -240,7 +240,7 @@ pub fn found_command<'a>(alloc: Global) -> Result<Command<'a>, AllocError>
 pub fn serve_command<'a>(alloc: Global) -> Result<Command<'a>, AllocError>
     ensures { IfOk result (λ command. app_of command ≡ serve_app) }
 {
-    let about = "Serve the laboratories of a file, on a port of this machine";
+    let about = "Serve the laboratories of a file on a port of this machine";
     let bare = command(alloc, "serve", about, SERVING);
     let first = with(bare, file_argument(alloc))?;
     with_port_and_count(alloc, first)
@@ -279,7 +279,7 @@ pub fn migrate_command<'a>(alloc: Global) -> Result<Command<'a>, AllocError>
 pub fn rehearse_command<'a>(alloc: Global) -> Result<Command<'a>, AllocError>
     ensures { IfOk result (λ command. app_of command ≡ rehearse_app) }
 {
-    let about = "Found a laboratory from the body of standard input, and ask for its card";
+    let about = "Found a laboratory in memory, as standard input describes it, and print its card";
     let usage = "labdesk rehearse --lab <L> --moment <S> < FOUNDING";
     let bare = reading_command(alloc, "rehearse", about, REHEARSING, usage);
     let first = with(bare, lab_argument(alloc))?;
@@ -290,7 +290,7 @@ pub fn rehearse_command<'a>(alloc: Global) -> Result<Command<'a>, AllocError>
 pub fn check_command<'a>(alloc: Global) -> Command<'a>
     ensures { app_of result ≡ check_app }
 {
-    let about = "Check the inspection copy of standard input, and tell what is found";
+    let about = "Check the inspection copy on standard input, and print the result";
     let usage = "labdesk check < COPY";
     reading_command(alloc, "check", about, CHECKING, usage)
 }
@@ -299,7 +299,7 @@ pub fn check_command<'a>(alloc: Global) -> Command<'a>
 pub fn replay_command<'a>(alloc: Global) -> Command<'a>
     ensures { app_of result ≡ replay_app }
 {
-    let about = "Run the events of standard input, and write their answers to standard output";
+    let about = "Run the events on standard input, and write their answers to standard output";
     let usage = "labdesk replay < EVENTS";
     reading_command(alloc, "replay", about, REPLAYING, usage)
 }

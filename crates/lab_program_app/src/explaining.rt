@@ -14,7 +14,7 @@ use std::alloc::{AllocError, Global};
 use std::io::Write;
 
 /// The fault of a range of records that ends before it begins.
-const MISORDERED: &str = "the number of '--from <A>' is above that of '--to <B>'";
+const MISORDERED: &str = "the number after '--from' is greater than the number after '--to'";
 
 /// Prints why the words name no task, and returns the status: 0 for help or the version, which go
 /// to the output; 2 for a fault in the words; and 1 if memory ran out or the text could not be

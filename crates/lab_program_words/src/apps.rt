@@ -15,7 +15,7 @@ use std::alloc::{AllocError, Global};
 const VERSION: &str = "0.6.0\nfor rattle-kit-13f logic dac8208d650f15bf";
 
 /// The help of all commands together.
-const COMMANDS: &str = "What goes in and comes out is described in docs/FORMATS.md. An example:
+const COMMANDS: &str = "docs/FORMATS.md describes what each command reads and prints. An example:
 
     labdesk found --file laboratories --lab aqua < examples/founding.json
     labdesk serve --file laboratories --port 8080";
