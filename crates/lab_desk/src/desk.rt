@@ -64,10 +64,11 @@ impl<S> Model for Desk<S> {
 }
 
 impl<S: Keeper + Drop> Desk<S> {
-    /// A desk over a keeper, with the routes and the reply for lack of memory prepared. An error drops the keeper.
+    /// Makes a desk over a keeper. Prepares the routes, and the reply that is sent if memory runs
+    /// out. After an error the keeper is dropped.
     ///
     /// # Errors
-    /// Only that memory ran out.
+    /// Memory ran out.
     pub fn new(alloc: Global, keeper: S) -> Result<Desk<S>, OutOfMemory>
         ensures keeper { IfOk result (λ desk. desk.keeper ≡ keeper) }
         ensures reply { IfOk result (λ desk. desk.reply ≡ []) }
@@ -83,19 +84,20 @@ impl<S: Keeper + Drop> Desk<S> {
         })
     }
 
-    /// Handles a request: `reply` has its reply, and the keeper what became of its laboratory.
-    /// Answers whether the request was taken: it was, unless memory ran out or the store refused;
-    /// then the reply says so, and the rows are as before. Where a fault of the store shut the
-    /// keeper during the commit, they are as before or as after it once the keeper is opened anew
-    /// (`crash`), so that a client reads before it asks again. Every laboratory keeps what was.
+    /// Handles a request. Afterwards `reply` returns its reply, and the keeper holds its laboratory
+    /// as the request left it. Returns whether the request was taken: it was, unless memory ran out
+    /// or the store refused. If it was not taken, the reply says why, and the rows are as before.
+    /// If a fault of the store shut the keeper during the commit, the rows are as before the commit
+    /// or as after it once the keeper is opened again (`crash`), so a client should read before it
+    /// asks again. Every laboratory keeps what it has recorded.
     ///
-    /// Each fact has a name, as a field of `Handles` (`specs/Handling.antt`): of a request that was
-    /// taken `taken` and `rows`, of one that was refused `refused` and `rows_refused`; of bytes
-    /// that ask nothing `untouched` and `nobodys`; of what a crash may leave `crash`, `quiet` and
-    /// `durable`; `stays` and `passes`, what stays true (`stays` has `within`, `releasing`,
-    /// `legible`, `keeps`, `reached`, `safe`, `left_within`, `left_releasing` and `again`: also
-    /// after a refusal a live keeper is live, or its store failed in this call); and `sound`: a
-    /// copy that was replied is sound.
+    /// Each fact has a name, as a field of `Handles` (`specs/Handling.antt`): `taken` and `rows`
+    /// are about a request that was taken; `refused` and `rows_refused` about one that was not;
+    /// `untouched` and `nobodys` about bytes that ask nothing; `crash`, `quiet` and `durable` about
+    /// what a crash may leave; `stays` and `passes` about what stays true (`stays` has `within`,
+    /// `releasing`, `legible`, `keeps`, `reached`, `safe`, `left_within`, `left_releasing` and
+    /// `again`: after a refusal too, a live keeper is live, or its store failed in this call); and
+    /// `sound`: a copy that was sent as the reply is sound.
     pub fn handle(&mut self, tick: &Tick, bytes: &[u8]) -> bool
         ensures { Handles S.Keeper self.old.keeper self.new.keeper (record {
           tick = tick.now;
@@ -110,7 +112,7 @@ impl<S: Keeper + Drop> Desk<S> {
         }
     }
 
-    /// Handles a request that was received, as `handle` handles its bytes.
+    /// Handles a received request, as `handle` handles its bytes.
     pub(crate) fn handle_received(&mut self, tick: &Tick, request: &Received) -> bool
         ensures { Handles S.Keeper self.old.keeper self.new.keeper (record {
           tick = tick.now;
@@ -139,7 +141,7 @@ impl<S: Keeper + Drop> Desk<S> {
         self.keep(tick, answered)
     }
 
-    // Keeps the reply to bytes that were refused, or for which memory ran out.
+    // Keeps the reply to bytes that were refused, or that could not be read because memory ran out.
     fn answer_fault(&mut self, tick: &Tick, fault: RequestFault) -> bool
         ensures { (bytes : List ℕ) → RequestFaultFits bytes fault →
             Handles S.Keeper self.old.keeper self.new.keeper (record {
@@ -155,7 +157,7 @@ impl<S: Keeper + Drop> Desk<S> {
         }
     }
 
-    /// Keeps the reply to bytes that ask nothing. Answers whether there was memory for it.
+    /// Keeps the reply to bytes that ask nothing. Returns whether memory sufficed for it.
     pub(crate) fn refuse(&mut self, tick: &Tick, refusal: RequestRefusal) -> bool
         ensures replied { result ≡ true →
             self.new.reply ≡ reply_text tick.now (RefusedAnswer refusal) }
@@ -166,7 +168,7 @@ impl<S: Keeper + Drop> Desk<S> {
         self.last.is_some()
     }
 
-    /// Keeps the reply that tells that memory ran out. Answers that no request was taken.
+    /// Keeps the reply that reports that memory ran out. Returns `false`: no request was taken.
     pub(crate) fn exhaust(&mut self) -> bool
         ensures refused { result ≡ false }
         ensures reply { self.new.reply ≡ memory_text }
@@ -176,8 +178,8 @@ impl<S: Keeper + Drop> Desk<S> {
         false
     }
 
-    // Keeps the reply of a laboratory that was asked, or one that tells of the keeper's fault.
-    // Answers whether the laboratory replied.
+    // Keeps the reply of the laboratory, or the reply that reports the keeper's fault. Returns
+    // whether the laboratory replied.
     fn keep(&mut self, tick: &Tick, answered: Result<Vec<u8>, KeeperFault>) -> bool
         ensures replied { IfOk answered (λ reply.
             (result ≡ true) × (self.new.reply ≡ reply.items)) }
@@ -198,7 +200,8 @@ impl<S: Keeper + Drop> Desk<S> {
         }
     }
 
-    /// The reply to the last request that was handled; empty before the first.
+    /// Returns the reply to the last request that was handled, or no bytes before the first
+    /// request.
     pub fn reply(&self) -> &[u8]
         ensures { result.now ≡ self.now.reply }
     {
@@ -208,11 +211,11 @@ impl<S: Keeper + Drop> Desk<S> {
         }
     }
 
-    /// Founds a laboratory from its body. Every other keeps what was.
+    /// Founds a laboratory from its body. Every other laboratory keeps what it has recorded.
     ///
     /// # Errors
-    /// The body's refusals, why none is born from it, that the laboratory is there, the store's
-    /// refusal, and that memory ran out. After each of them every laboratory means what it meant.
+    /// The body was refused, no laboratory can be made from it, a laboratory with the code exists,
+    /// the store refused, or memory ran out. After each error every laboratory is unchanged.
     pub fn found(&mut self, lab: &LabCode, tick: &Tick, body: &[u8]) -> Result<(), FoundFault>
         ensures founded { Given (S.world self.old.keeper) (S.world self.new.keeper) (OnOk result
             (Founds (S.world self.old.keeper) (S.world self.new.keeper)
@@ -252,7 +255,8 @@ impl<S: Keeper + Drop> Desk<S> {
         Ok(())
     }
 
-    /// Founds a laboratory, and says so in a line, which is built before anything is changed.
+    /// Founds a laboratory, and returns the line that reports it. The line is built before anything
+    /// is changed.
     pub(crate) fn answer_founding(
         &mut self,
         lab: &LabCode,
@@ -292,12 +296,12 @@ impl<S: Keeper + Drop> Desk<S> {
         }
     }
 
-    /// Where the desk takes its memory.
+    /// Returns the allocator of the desk.
     pub(crate) fn alloc(&self) -> Global {
         self.alloc
     }
 
-    /// Room for one word an event.
+    /// Returns an empty list that has room for one word for each event.
     ///
     /// # Errors
     /// Memory ran out.
@@ -308,11 +312,11 @@ impl<S: Keeper + Drop> Desk<S> {
         Ok(Vec::with_capacity(self.alloc, events.len())?)
     }
 
-    /// Asks the keeper for the head of a laboratory, which may be none of its own: one that answers
-    /// is live. Nothing is changed.
+    /// Asks the keeper for the head of a laboratory, which need not exist. A keeper that answers is
+    /// live. Nothing is changed.
     ///
     /// # Errors
-    /// The keeper's.
+    /// The keeper failed.
     pub fn answers(&mut self, lab: &LabCode) -> Result<(), KeeperFault>
         ensures asked { AnswersRequest S.Keeper self.old.keeper self.new.keeper result }
         ensures reply { self.new.reply ≡ self.old.reply }
@@ -330,7 +334,7 @@ impl<S: Keeper + Drop> Desk<S> {
         }
     }
 
-    /// Goes on over another keeper.
+    /// Replaces the keeper by another one.
     pub fn set_keeper(&mut self, keeper: S)
         ensures keeper { self.new.keeper ≡ keeper }
         ensures reply { self.new.reply ≡ self.old.reply }
@@ -338,7 +342,7 @@ impl<S: Keeper + Drop> Desk<S> {
         self.keeper = keeper;
     }
 
-    /// The keeper, given up.
+    /// Returns the keeper, and ends the desk.
     pub fn into_keeper(self) -> S
         ensures { result ≡ self.keeper }
     {

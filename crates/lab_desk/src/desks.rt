@@ -11,16 +11,17 @@ use crate::{Desk, Keeper, Tick};
 /// Whether each of two desks took a request.
 #[derive(Clone, Copy, Debug, PartialEq, Eq)]
 pub struct Twins {
-    /// Whether the first did.
+    /// Whether the first desk took it.
     pub one: bool,
-    /// Whether the other did.
+    /// Whether the other desk took it.
     pub other: bool,
 }
 
-/// Handles a request by two desks, one after the other, over keepers of any two types. Each desk is
-/// left as `Desk::handle` leaves it. Where both took the request and agreed on the laboratory that
-/// it names, they reply alike and agree on it still, whatever else they hold. On every other
-/// laboratory on which they agreed they agree still, whatever became of the request.
+/// Handles a request at two desks, one after the other, over keepers of any two types. Each desk is
+/// left as `Desk::handle` leaves it. If both took the request and agreed on the laboratory that it
+/// names, they give the same reply and still agree on this laboratory, whatever else they hold.
+/// They still agree on every other laboratory on which they agreed, whether the request was taken
+/// or not.
 pub fn twin<S: Keeper + Drop, T: Keeper + Drop>(
     desk: &mut Desk<S>,
     other: &mut Desk<T>,

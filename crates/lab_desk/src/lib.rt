@@ -1,6 +1,6 @@
-//! The desk: requests and foundings in, reply bytes out, over any keeper of laboratories. Each laboratory's
-//! answers and rows are those of its own small machine, run over its own events alone, so two desks
-//! that agree on a laboratory answer alike.
+//! The desk: requests and foundings go in, and reply bytes come out, over any keeper of
+//! laboratories. Each laboratory's answers and rows are those of its own small machine, run over
+//! its own events alone, so two desks that agree on a laboratory give the same answers.
 #![tactic(auto)]
 
 mod desk;

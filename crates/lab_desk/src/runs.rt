@@ -25,24 +25,25 @@ struct Answered {
 }
 
 impl<S: Keeper + Drop> Desk<S> {
-    /// Handles events in order, writes each answer in turn, and tells for each event whether it was
-    /// taken. An event is taken unless memory ran out or the store refused, which change nothing;
-    /// but where a fault shut the store during a commit, that event may be found done once the
-    /// store is opened anew, as `crash` of [`Desk::handle`] says. Each laboratory's answers, byte
-    /// for byte, and what the keeper means by it in the end are those of its own small machine, run
-    /// over its own taken events alone; every event has one answer, in order, and nothing else is
-    /// written. The answers are so also where a fault shut the store. Each laboratory keeps what
-    /// was at each event, and has in the end all that was recorded at the start: `stays` has
-    /// `within`, `releasing`, `legible`, `retains`, `released`, `reached`, `safe`, `left_within`,
-    /// `left_releasing` and `again`. Where the keeper is live at the end, or each event but the
-    /// last was taken and the last one shut it, a crash then leaves what every event that was taken
-    /// made, and beside it at most one that the store refused: `leaves`, and after a write fault
-    /// `leaves_cut`.
+    /// Handles events in order, writes the answer to each, and returns for each event whether it
+    /// was taken. An event is taken unless memory ran out or the store refused; then nothing is
+    /// changed. But if a fault shut the store during a commit, that event may have been done once
+    /// the store is opened again, as `crash` of [`Desk::handle`] says. Each laboratory's answers,
+    /// byte for byte, and the laboratory that the keeper holds at the end are those of its own
+    /// small machine, run over its own taken events alone. Every event has one answer, in order,
+    /// and nothing else is written. This is true of the answers even if a fault shut the store.
+    /// Each laboratory keeps at each event what it has recorded, and at the end it has all that was
+    /// recorded at the start: `stays` has `within`, `releasing`, `legible`, `retains`, `released`,
+    /// `reached`, `safe`, `left_within`, `left_releasing` and `again`. If the keeper is live at the
+    /// end, or if each event but the last was taken and the last one shut the keeper, then a crash
+    /// leaves the results of all events that were taken, and of at most one event that the store
+    /// refused: `leaves`, and after a write fault `leaves_cut`.
     ///
     /// # Errors
-    /// That memory ran out for the list that is told, made first: nothing is handled or written. A
-    /// write fault: the events up to it stand, their answers went out, the last of them cut to its
-    /// first bytes.
+    /// - `Memory`: memory ran out for the list that is returned, which is made first. Nothing was
+    ///   handled or written;
+    /// - `Write`: a write failed. The events up to it were handled, and their answers were written,
+    ///   the last one only in part.
     pub fn run<W: Write>(&mut self, events: &[Event], writer: &mut W) -> Result<Vec<bool>, RunFault>
         ensures alone { GivenWithin (S.world self.old.keeper) (S.world self.new.keeper)
             (IfOk result (λ taken.

@@ -1,4 +1,4 @@
-//! Serving one request: it is read from any reader, piece by piece, and handled, and its reply goes
+//! Serves one request: reads it from any reader, piece by piece, handles it, and writes its reply
 //! to any writer.
 
 ghost use Rattle.std.specs.Prelude.{◌≡◌, ◌≤◌, ◌+◌, IfSome, OnErr};
@@ -17,14 +17,15 @@ use lab_wire_received::read_request;
 use std::io::Write;
 
 impl<S: Keeper + Drop> Desk<S> {
-    /// Serves one request: reads it, handles it, and writes its reply, which [`Desk::reply`] has
-    /// afterwards. The interim answer goes out before its body is read, where the request waits for
-    /// it. What follows the request is left unread. A request that is refused as it is read is
-    /// answered by its refusal.
+    /// Serves one request: reads it, handles it, and writes its reply, which [`Desk::reply`]
+    /// returns afterwards. If the client waits for the interim answer, it is written before the
+    /// body is read. What follows the request is not read. If the request is refused while it is
+    /// read, the reply is the refusal.
     ///
     /// # Errors
-    /// That the reader failed, or was asked 80,000 times: nothing is answered. That the writer failed:
-    /// within the interim answer nothing is changed; within the reply the request stands.
+    /// - `Read`: the reader failed, or was asked 80,000 times. No reply was written;
+    /// - `Interim`: the writer failed within the interim answer. Nothing was changed;
+    /// - `Reply`: the writer failed within the reply. The request was handled all the same.
     pub fn serve_one<R: ByteSource, W: Write>(
         &mut self,
         reader: &mut R,
@@ -49,7 +50,7 @@ impl<S: Keeper + Drop> Desk<S> {
         }
     }
 
-    // Reads a request and handles it: its reply is kept, and not yet written.
+    // Reads a request and handles it. Its reply is kept, but not yet written.
     fn receive<R: ByteSource, W: Write>(
         &mut self,
         reader: &mut R,

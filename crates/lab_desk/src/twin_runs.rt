@@ -6,11 +6,12 @@ ghost use Rattle.lab_desk_events.specs.Alone.{Happening};
 ghost use Rattle.lab_desk_events.specs.Runs.{Handled, IsAccountOf, AreAlone, own_events, own_answers, after_run};
 ghost use Rattle.lab_desk.specs.Twins.{Agree};
 
-/// Law: two runs that agree on a laboratory at their starts, and in which the same events of its own
-/// were taken, give it the same answers, byte for byte, and agree on it after (`answers`, `after`),
-/// whatever else they hold and whatever events of others come between. Where the events of the runs
-/// are the same, and the same of them were taken, so are its own (`own`). That each laboratory's
-/// answers are those of its run alone is what `Desk::run` promises.
+/// Law: if two runs agree on a laboratory at their starts, and the same events of this laboratory
+/// were taken in both, then they give it the same answers, byte for byte, and agree on it at their
+/// ends (`answers`, `after`), whatever else they hold and whatever events of others come between.
+/// If the runs have the same events, and the same of them were taken, then the laboratory's own
+/// events are the same (`own`). `Desk::run` promises that each laboratory's answers are those of
+/// its run alone.
 pub fn equal_events_get_equal_answers()
     ensures answers { (start other_start : Meaning) (handled others : List Handled)
         (code : List ℕ) → AreAlone start handled → AreAlone other_start others →

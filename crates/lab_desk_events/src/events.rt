@@ -5,7 +5,8 @@ ghost use Rattle.std.specs.Prelude.{◌≡◌, IfOk};
 use lab_forms_texts::{LabCode, OutOfMemory, Series, Tick};
 use std::alloc::AllocError;
 
-/// One event of an installation. It isn't printed: it has passwords, tokens, and the words that tokens are made of.
+/// One event of an installation. It isn't printed, because it holds passwords, tokens, and the
+/// words from which tokens are made.
 pub enum Event {
     /// A laboratory is to be founded.
     Found {
@@ -40,10 +41,10 @@ impl Drop for Event {
 }
 
 impl Event {
-    /// A copy.
+    /// Returns a copy.
     ///
     /// # Errors
-    /// Only that memory ran out.
+    /// Memory ran out.
     pub fn copy(&self) -> Result<Event, OutOfMemory>
         ensures { IfOk result (λ copy. copy ≡ self.now) }
     {

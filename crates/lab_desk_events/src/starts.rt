@@ -7,15 +7,15 @@ ghost use Rattle.lab_desk_events.specs.Keeping.{OfAll};
 ghost use Rattle.lab_desk_events.specs.Runs.{Handled, after_run};
 ghost use Rattle.lab_desk_events.specs.Starts.{AreMadeAt, AreMadeIn, AreStarts, IsAloneAt, IsAnswered, Start, left_by};
 
-/// Law: over starts and stops one after the other, of which each finds what a crash at the stop
-/// before it may have left, each laboratory's answers and rows are those of its own small machine,
-/// run over its own events alone, as if there had been no stop. At each start it answers from where
-/// its events of all starts before have brought it (`answers`), and so it is left by the last stop
-/// (`rows`): its events are those that were taken and, at a stop, at most one that the store
-/// refused and whose commit was done all the same; what was taken after that one has changed
-/// nothing, so that no crash loses a taken event. `alone` says both of all starts at once.
-/// Signatures stay bound and under dual control (`releasing`), whatever a crash left. What each
-/// start answers and leaves is what `Desk::run` promises.
+/// Law: if an installation is started and stopped several times, and each start finds what a crash
+/// at the stop before it may have left, then each laboratory's answers and rows are those of its
+/// own small machine, run over its own events alone, as if it had never stopped. At each start the
+/// laboratory answers from the state to which its events of all earlier starts have brought it
+/// (`answers`), and the last stop leaves it in such a state (`rows`). Its events are those that
+/// were taken and, at each stop, at most one that the store refused but whose commit was done all
+/// the same; events that were taken after that one have changed nothing, so no crash loses a taken
+/// event. `alone` says both for all starts together. Signatures stay bound and under dual control
+/// (`releasing`), whatever a crash left. `Desk::run` promises what each start answers and leaves.
 pub fn a_stop_and_a_start_go_on()
     ensures answers { (first : Meaning) (before : List Start) (one : Start) (after : List Start) →
         AreStarts first (before ++ one ∷ after) → (made : List Handled)

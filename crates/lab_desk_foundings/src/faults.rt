@@ -17,7 +17,7 @@ pub enum FoundFault {
     Body(BodyRefusal),
     /// No laboratory can be made from the body.
     Birth(BirthRefusal),
-    /// The keeper founded nothing, or memory ran out before.
+    /// The keeper founded no laboratory, or memory ran out before it was asked.
     Placing(PlacingFault),
 }
 
@@ -98,7 +98,7 @@ impl From<OutOfMemory> for FoundFault {
     }
 }
 
-/// For a keeper that founded nothing.
+/// For a keeper that founded no laboratory.
 impl From<PlacingFault> for FoundFault {
     ghost use Rattle.lab_desk_foundings.specs.declared.faults.FoundFault.TheVariants.{Placing};
 

@@ -20,7 +20,7 @@ use std::alloc::Global;
 /// The most bytes of a founding's body.
 const BODY_LIMIT: usize = 1_000_000;
 
-// What a keeper founds the laboratory with the code from, read from a body within the limit.
+// Reads a body within the limit, and returns what a keeper needs to found the laboratory.
 fn newborn_within(
     alloc: Global,
     lab: &LabCode,
@@ -39,8 +39,8 @@ fn newborn_within(
     }
 }
 
-/// Returns what a keeper founds the laboratory with the code from, read from its body. A body over
-/// the limit isn't read.
+/// Reads a founding's body, and returns what a keeper needs to found the laboratory with the code.
+/// A body over the limit isn't read.
 ///
 /// # Errors
 /// The founding is refused, the store failed, or memory ran out.

@@ -12,8 +12,8 @@ use thiserror::Error;
 pub enum RunFault {
     /// Memory ran out for the list that a run returns. Nothing was handled or written.
     Memory,
-    /// A write failed, or took no byte. The event whose answer was being written stands, and those
-    /// after it were not handled.
+    /// A write failed, or took no byte. The event whose answer was being written was handled, and
+    /// those after it were not.
     Write {
         /// For each event up to and including the one whose answer was cut, whether it was taken.
         taken: Vec<bool>,
@@ -66,7 +66,7 @@ pub enum ServeFault {
         /// How many of its bytes were sent before.
         sent: usize,
     },
-    /// A write of the reply failed, or took no byte. The request stands.
+    /// A write of the reply failed, or took no byte. The request was handled all the same.
     Reply {
         /// How many of the reply's bytes were sent before.
         sent: usize,
