@@ -1,17 +1,11 @@
-"""What the parts of tests/pages_code share: where the pages are, and the lines that are printed."""
+"""What the parts of tests/pages_code share: where the pages are, and the report."""
 import pathlib
+import sys
 
 TOP = pathlib.Path(__file__).resolve().parent.parent.parent
 PAGES = TOP / "pages"
-SAID = {"ok": 0, "FAILED": 0}
+sys.path.insert(0, str(TOP / "tests/lib"))
+from report import Report  # noqa: E402
 
-
-def say(good, what):
-    """A line for what was looked at."""
-    word = "ok" if good else "FAILED"
-    SAID[word] += 1
-    print(f"{word} pages_code: {what}", flush=True)
-
-
-def same(what, there, wanted):
-    say(there == wanted, what if there == wanted else f"{what}: {there!r:.900}, and {wanted!r:.300} is wanted")
+report = Report("pages_code")
+say, same = report.say, report.same

@@ -11,10 +11,16 @@ def request_of(method, path, members=None, token=None, host="d"):
     return "\r\n".join([*head, "", ""]).encode() + content
 
 
+def parted(reply):
+    """The status of a reply, and the bytes of its body."""
+    head, _, body = reply.partition(b"\r\n\r\n")
+    return int(head.split()[1]), body
+
+
 def read(reply):
     """The status of a reply, and its members."""
-    head, _, members = reply.partition(b"\r\n\r\n")
-    return int(head.split()[1]), json.loads(members)
+    status, members = parted(reply)
+    return status, json.loads(members)
 
 
 def ask(server, method, path, members=None, token=None):

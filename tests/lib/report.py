@@ -32,15 +32,24 @@ def must_be(what, there, wanted, most=300, show=shown):
         raise Differs(f"{what}: {show(wanted, most)} is wanted, and there is {show(there, most)}")
 
 
+def must_be_one(what, there, wanted, most=300, show=shown):
+    """Stops a part where something is none of several."""
+    if there not in wanted:
+        raise Differs(f"{what}: one of {show(wanted, most)} is wanted, and there is {show(there, most)}")
+
+
 class Report:
     """The lines of a script, and its status so far."""
 
     def __init__(self, name):
         self.name, self.status, self.count, self.differing = name, 0, 0, []
+        self.lines = {"ok": 0, "FAILED": 0}
 
     def say(self, good, what):
         """Prints the line of one thing. Returns whether it is good."""
-        print(f"{'ok' if good else 'FAILED'} {self.name}: {what}", flush=True)
+        word = "ok" if good else "FAILED"
+        print(f"{word} {self.name}: {what}", flush=True)
+        self.lines[word] += 1
         self.status = self.status if good else 1
         return bool(good)
 
@@ -77,3 +86,8 @@ class Report:
         for one in differing[:most]:
             self.say(False, one)
         return not differing and self.say(True, what.format(count=count))
+
+    def end(self):
+        """Prints how many lines there were of each word. Returns the status."""
+        print(f"{self.name}: {self.lines['ok']} ok, {self.lines['FAILED']} failed", flush=True)
+        return self.status

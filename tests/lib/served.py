@@ -12,15 +12,15 @@ TOP = os.path.dirname(os.path.dirname(os.path.dirname(os.path.abspath(__file__))
 PATIENCE = 300
 
 
-def program_of(report, words, *commands):
-    """The path of the program: the first of the words, or the proved one, which is built if it isn't there. Where there is none, or one of
-    the commands isn't on the path, a line says so, and the script ends."""
+def program_of(report, words, *commands, crate="lab_program"):
+    """The path of a crate's program: the first of the words, or the proved one, which is built if it isn't there. Where there is none, or one
+    of the commands isn't on the path, a line says so, and the script ends."""
     missing = [command for command in commands if shutil.which(command) is None]
     for command in missing:
         report.say(False, f"no command {command} on the path")
     if missing:
         sys.exit(1)
-    ran = words[0] if words else subprocess.run([f"{TOP}/tools/program", "lab_program"], stdout=subprocess.PIPE, text=True).stdout.strip()
+    ran = words[0] if words else subprocess.run([f"{TOP}/tools/program", crate], stdout=subprocess.PIPE, text=True).stdout.strip()
     if not os.access(ran, os.X_OK):
         report.say(False, "the program isn't there")
         sys.exit(1)
@@ -38,16 +38,11 @@ def received(client):
     return b"".join(parts)
 
 
-class Server:
-    """labdesk serve over a file, at a port that is free: `port`; where it doesn't listen that is none, and `line` is what it printed. It
-    ends by itself after `count` connections, if that is said. Other words may stand in place of the file's."""
+class Port:
+    """A port of this machine, at which a server listens: `port`."""
 
-    def __init__(self, program, file, *further, count=None, words=None, environment=None, **how):
-        words = words or [program, "serve", "--file", str(file), "--port", "0", *([] if count is None else ["--count", str(count)]), *further]
-        self.process = subprocess.Popen(words, stdout=subprocess.PIPE, stderr=subprocess.PIPE, env=environment, **how)
-        self.line = self.process.stdout.readline()
-        listening = re.fullmatch(rb"listening 127\.0\.0\.1:(\d+)\n", self.line)
-        self.port = int(listening[1]) if listening else None
+    def __init__(self, port):
+        self.port = port
 
     def connect(self):
         return socket.create_connection(("127.0.0.1", self.port), timeout=PATIENCE)
@@ -63,6 +58,27 @@ class Server:
             except OSError:
                 pass
             return received(client)
+
+
+class Server(Port):
+    """labdesk serve over a file, at a port that is free: `port`; where it doesn't listen that is none, and `line` is what it printed. It
+    ends by itself after `count` connections, if that is said. Other words may stand in place of the file's. Where a server is held before
+    it listens, its line is read once it is let go, by `listen`."""
+
+    def __init__(self, program, file, *further, count=None, words=None, environment=None, is_held=False, **how):
+        super().__init__(None)
+        words = words or [program, "serve", "--file", str(file), "--port", "0", *([] if count is None else ["--count", str(count)]), *further]
+        self.process = subprocess.Popen(words, stdout=subprocess.PIPE, stderr=subprocess.PIPE, env=environment, **how)
+        self.line = b""
+        if not is_held:
+            self.listen()
+
+    def listen(self):
+        """Reads the server's line. Returns whether it listens."""
+        self.line = self.process.stdout.readline()
+        listening = re.fullmatch(rb"listening 127\.0\.0\.1:(\d+)\n", self.line)
+        self.port = int(listening[1]) if listening else None
+        return self.port is not None
 
     def stop(self):
         """Stops it as systemd does. Returns what `ended` does."""
