@@ -1,4 +1,4 @@
--- What is asked, by what the command of the route comes to.
+-- What is asked of a laboratory, by the command that is found.
 use Rattle.std.proofs.Common.{◌≡◌, ℕ, List, Option, Some, None, Result, Ok, Err, ap, refl, ◌∙◌, inl}
 use Rattle.std.specs.Prelude.{IfOk, IfErr, option_map}
 use Rattle.std.specs.Option.{ok_or}
@@ -15,7 +15,7 @@ use Rattle.lab_wire.specs.Commands.{reads_in, ranged, FaultFits, PostsBytes, ask
 use Rattle.lab_wire.specs.Routes.{Destination}
 use Rattle.lab_wire.specs.declared.commands.Asked.{Asked}
 
--- ---- the command of a route
+-- ---- the command of what is asked
 
 -- what a query without a range is refused as
 abbrev bad_query : Fault RouteRefusal
@@ -68,7 +68,7 @@ asks_there parts to (Ok asks) goes is = ap (asked_at parts) goes ∙ is
 asks_there parts to (Err fault) goes is = is
 
 pub fault_there : (parts : RequestParts) (to : Destination) (r : Result Asked (Fault RouteRefusal)) → destination_in parts ≡ Ok to
-    → IfErr r (FaultFits (PostsBytes to.route parts.body) (asked_at parts (Ok to))) → IfErr r (RouteFaultFits parts)
+    → IfErr r (FaultFits (PostsBytes to.aim parts.body) (asked_at parts (Ok to))) → IfErr r (RouteFaultFits parts)
 unfolding command_asked
 fault_there parts to (Ok asks) goes is = is
 fault_there parts to (Err (Refused refusal)) goes is = ap (asked_at parts) goes ∙ is

@@ -9,6 +9,7 @@ use Rattle.lab_wire_members.specs.declared.refusals.BodyRefusal.TheVariants.{Bad
 use Rattle.lab_wire_bodies.specs.declared.bodies.Post.TheVariants.{Open, Close, ChangePassword, Enrol, AskIssue, ConfirmIssue, SetRoles, Retire, Unlock, MakeForm, OpenRecord, Enter, Amend, Sign}
 use Rattle.lab_wire.specs.declared.route_refusals.RouteRefusal.TheVariants.{NoRoute, Method, Body}
 use Rattle.lab_wire.specs.declared.route_refusals.Allowed.TheVariants.{Get as GetAlone, Post as PostAlone, GetOrPost}
+use Rattle.lab_wire.specs.declared.aims.Aim.TheVariants as aim
 use Rattle.lab_wire.specs.declared.routes.Route.TheVariants.{Card, Persons, Form, Record, Version, Records, Trail, Copy, Posted}
 use Rattle.lab_wire.specs.Numbers.{ordinal_in}
 use Rattle.lab_wire.specs.Paths.{path_of, query_of, behind, segments}
@@ -112,10 +113,10 @@ unfolding route_of is_place route_row admits is_key ordinal_in digits segments
 known_methods = (refl, refl, refl, refl, refl, refl, refl, refl, refl)
 
 -- where a target goes
-pub known_destinations : (destination_of (codes "GET") (codes "/labs/aqua") ≡ Ok (record { lab = codes "aqua"; place = []; query = []; route = Card }))
-    × (destination_of (codes "GET") (codes "/labs/aqua?a=/b") ≡ Ok (record { lab = codes "aqua"; place = []; query = codes "a=/b"; route = Card }))
-    × (destination_of (codes "GET") (codes "/labs/aqua-2/trail?from=1&to=2") ≡ Ok (record { lab = codes "aqua-2"; place = codes "/trail"; query = codes "from=1&to=2"; route = Trail }))
-    × (destination_of (codes "POST") (codes "/labs/aqua/open?from=1") ≡ Ok (record { lab = codes "aqua"; place = codes "/open"; query = codes "from=1"; route = Posted Open }))
+pub known_destinations : (destination_of (codes "GET") (codes "/labs/aqua") ≡ Ok (record { lab = codes "aqua"; query = []; aim = aim.Card }))
+    × (destination_of (codes "GET") (codes "/labs/aqua?a=/b") ≡ Ok (record { lab = codes "aqua"; query = codes "a=/b"; aim = aim.Card }))
+    × (destination_of (codes "GET") (codes "/labs/aqua-2/trail?from=1&to=2") ≡ Ok (record { lab = codes "aqua-2"; query = codes "from=1&to=2"; aim = aim.Trail }))
+    × (destination_of (codes "POST") (codes "/labs/aqua/open?from=1") ≡ Ok (record { lab = codes "aqua"; query = codes "from=1"; aim = aim.Posted Open }))
     × (destination_of (codes "GET") (codes "/labs/AQUA") ≡ Err NoRoute)
     × (destination_of (codes "PUT") (codes "/labs/AQUA/persons") ≡ Err NoRoute)
     × (destination_of (codes "GET") (codes "/labs//trail") ≡ Err NoRoute)
@@ -124,6 +125,14 @@ pub known_destinations : (destination_of (codes "GET") (codes "/labs/aqua") ≡ 
     × (destination_of (codes "PUT") (codes "/labs/aqua/trail#a") ≡ Err NoRoute)
 unfolding destination_of behind is_lab_code route_of is_place route_row admits is_key ordinal_in digits segments
 known_destinations = (refl, refl, refl, refl, refl, refl, refl, refl, refl, refl)
+
+-- with the parameters of its path
+pub known_parameters : (destination_of (codes "GET") (codes "/labs/aqua/forms/water_2/3")
+    ≡ Ok (record { lab = codes "aqua"; query = []; aim = aim.Form (codes "water_2") 3 }))
+    × (destination_of (codes "GET") (codes "/labs/aqua/records/5?from=1") ≡ Ok (record { lab = codes "aqua"; query = codes "from=1"; aim = aim.Record 5 }))
+    × (destination_of (codes "GET") (codes "/labs/aqua/records/5/versions/2") ≡ Ok (record { lab = codes "aqua"; query = []; aim = aim.Version 5 2 }))
+unfolding destination_of behind is_lab_code route_of is_place route_row admits is_key ordinal_in digits segments
+known_parameters = (refl, refl, refl)
 
 -- exactly from=A&to=B, at most a hundred numbers
 pub known_ranges : (range_in (codes "from=1&to=100") ≡ Some (record { from = 1; to = 100 }))
@@ -144,15 +153,15 @@ pub known_ranges : (range_in (codes "from=1&to=100") ≡ Some (record { from = 1
 unfolding range_in behind ordinal_in digits
 known_ranges = (refl, refl, refl, refl, refl, refl, refl, refl, refl, refl, refl, refl, refl, refl, refl)
 
--- the command of a route, with its query
-pub known_at : (command_at Form (codes "/forms/water/3") ([]) ([]) ≡ Ok (reads_in (reading.ReadForm (codes "water") 3)))
-    × (command_at Record (codes "/records/5") (codes "from=1") (codes "x") ≡ Ok (reads_in (reading.ReadRecord 5)))
-    × (command_at Version (codes "/records/5/versions/2") ([]) ([]) ≡ Ok (reads_in (reading.ReadVersion 5 2)))
-    × (command_at Records (codes "/records") (codes "from=1&to=100") ([]) ≡ Ok (reads_in (reading.ReadRecords 1 100)))
-    × (command_at Trail (codes "/trail") (codes "from=3&to=4") ([]) ≡ Ok (reads_in (reading.ReadTrail 3 4)))
-    × (command_at Copy (codes "/copy") (codes "from=3&to=5") ([]) ≡ Ok (reads_in (reading.TakeCopy 3 5)))
-    × (command_at Trail (codes "/trail") ([]) ([]) ≡ Err (Body BadBody))
-    × (command_at Copy (codes "/copy") (codes "from=5&to=3") ([]) ≡ Err (Body BadBody))
-    × (command_at Card ([]) (codes "a") ([]) ≡ Ok command.Card)
-unfolding command_at segments range_in behind ordinal_in digits
+-- the command of what is asked, with its query
+pub known_at : (command_at (aim.Form (codes "water") 3) ([]) ([]) ≡ Ok (reads_in (reading.ReadForm (codes "water") 3)))
+    × (command_at (aim.Record 5) (codes "from=1") (codes "x") ≡ Ok (reads_in (reading.ReadRecord 5)))
+    × (command_at (aim.Version 5 2) ([]) ([]) ≡ Ok (reads_in (reading.ReadVersion 5 2)))
+    × (command_at aim.Records (codes "from=1&to=100") ([]) ≡ Ok (reads_in (reading.ReadRecords 1 100)))
+    × (command_at aim.Trail (codes "from=3&to=4") ([]) ≡ Ok (reads_in (reading.ReadTrail 3 4)))
+    × (command_at aim.Copy (codes "from=3&to=5") ([]) ≡ Ok (reads_in (reading.TakeCopy 3 5)))
+    × (command_at aim.Trail ([]) ([]) ≡ Err (Body BadBody))
+    × (command_at aim.Copy (codes "from=5&to=3") ([]) ≡ Err (Body BadBody))
+    × (command_at aim.Card (codes "a") ([]) ≡ Ok command.Card)
+unfolding command_at range_in behind ordinal_in digits
 known_at = (refl, refl, refl, refl, refl, refl, refl, refl, refl)

@@ -1,3 +1,4 @@
+pub mod AimLemmas
 pub mod PlaceWords
 pub mod AskLemmas
 pub mod CommandLemmas

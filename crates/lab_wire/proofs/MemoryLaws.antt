@@ -4,8 +4,8 @@ use Rattle.std.specs.Prelude.{is_ok, ⊤}
 use Rattle.std.proofs.lemmas.Bool.{false≢true}
 use Rattle.lab_wire_heads.specs.Requests.{RequestParts}
 use Rattle.lab_wire.specs.declared.route_refusals.RouteRefusal.{RouteRefusal}
-use Rattle.lab_wire.specs.declared.routes.Route.{Route}
-use Rattle.lab_wire.specs.declared.routes.Route.TheVariants.{Card, Persons, Form, Record, Version, Records, Trail, Copy, Posted}
+use Rattle.lab_wire.specs.declared.aims.Aim.{Aim}
+use Rattle.lab_wire.specs.declared.aims.Aim.TheVariants.{Card, Persons, Form, Record, Version, Records, Trail, Copy, Posted}
 use Rattle.lab_wire.specs.Routes.{Destination}
 use Rattle.lab_wire.specs.Commands.{destination_in, command_asked, PostsBytes, PostsBytesTo, MakesSomething}
 use Rattle.lab_wire.proofs.CommandLemmas.{goes_nowhere}
@@ -26,34 +26,34 @@ nowhere_unmade request refusal is =
     (λ posts. subst (λ (found : Result Destination RouteRefusal). PostsBytesTo found request.body) is posts)
 
 -- one that reads, so that its query is refused
-abbrev pub Reads : Route → Type 0
+abbrev pub Reads : Aim → Type 0
 Reads (Posted post) = ⊥
 Reads _ = ⊤
 
-reads_no_byte : (route : Route) (body : List ℕ) → Reads route → PostsBytes route body → ⊥
+reads_no_byte : (aim : Aim) (body : List ℕ) → Reads aim → PostsBytes aim body → ⊥
 reads_no_byte Card body reads posts = posts
 reads_no_byte Persons body reads posts = posts
-reads_no_byte Form body reads posts = posts
-reads_no_byte Record body reads posts = posts
-reads_no_byte Version body reads posts = posts
+reads_no_byte (Form code version) body reads posts = posts
+reads_no_byte (Record number) body reads posts = posts
+reads_no_byte (Version number version) body reads posts = posts
 reads_no_byte Records body reads posts = posts
 reads_no_byte Trail body reads posts = posts
 reads_no_byte Copy body reads posts = posts
 reads_no_byte (Posted post) body reads posts = reads
 
-pub reading_unmade : (request : RequestParts) (to : Destination) (refusal : RouteRefusal) → destination_in request ≡ Ok to → Reads to.route
+pub reading_unmade : (request : RequestParts) (to : Destination) (refusal : RouteRefusal) → destination_in request ≡ Ok to → Reads to.aim
     → command_asked request ≡ Err refusal → MakesSomething request → ⊥
 reading_unmade request to refusal goes reads is =
     refused_unmade request refusal is
-    (λ posts. reads_no_byte to.route request.body reads (subst (λ (found : Result Destination RouteRefusal). PostsBytesTo found request.body) goes posts))
+    (λ posts. reads_no_byte to.aim request.body reads (subst (λ (found : Result Destination RouteRefusal). PostsBytesTo found request.body) goes posts))
 
 -- one that posts an empty body
-no_byte_at : (route : Route) → PostsBytes route [] → ⊥
+no_byte_at : (aim : Aim) → PostsBytes aim [] → ⊥
 no_byte_at Card posts = posts
 no_byte_at Persons posts = posts
-no_byte_at Form posts = posts
-no_byte_at Record posts = posts
-no_byte_at Version posts = posts
+no_byte_at (Form code version) posts = posts
+no_byte_at (Record number) posts = posts
+no_byte_at (Version number version) posts = posts
 no_byte_at Records posts = posts
 no_byte_at Trail posts = posts
 no_byte_at Copy posts = posts
@@ -61,7 +61,7 @@ no_byte_at (Posted post) some = absurd (omega arith)
 
 no_byte_to : (found : Result Destination RouteRefusal) → PostsBytesTo found [] → ⊥
 no_byte_to (Err refusal) posts = posts
-no_byte_to (Ok to) posts = no_byte_at to.route posts
+no_byte_to (Ok to) posts = no_byte_at to.aim posts
 
 pub empty_body_unmade : (request : RequestParts) (refusal : RouteRefusal) → request.body ≡ [] → command_asked request ≡ Err refusal
     → MakesSomething request → ⊥

@@ -11,7 +11,7 @@ use Rattle.std.proofs.lemmas.List.Sums.{passes_at_first, prefix_len-le-length}
 use Rattle.std.proofs.lemmas.Grind.{common_steps}
 use native.Mathlib.Numerals.{unary_clauses}
 use Rattle.lab_wire.proofs.Parts.{one_part}
-use Rattle.lab_wire.specs.Paths.{behind, is_slash, lab_in, place_in, segments, segment_at}
+use Rattle.lab_wire.specs.Paths.{behind, is_slash, lab_in, place_in, segments}
 
 pub behind_is : (prefix path : List ℕ) (found : Option (Bor (List ℕ)))
     → MatchOption found (FindsTextPrefix prefix path None) (λ rest. StripsPrefix (FindsTextPrefix prefix) path rest.now)
@@ -98,18 +98,3 @@ pub first_segment : (place : List ℕ) → position_or_len is_slash place < leng
 unfolding segments
 first_segment place found =
     ap (drop 1) (slice_split_first is_slash place 0 found) ∙ one_or_more (after_first is_slash place) _ refl
-
--- ---- the segment at a number
-
-pub segment_here : (place segment : List ℕ) (more : List (List ℕ)) → segments place ≡ segment ∷ more → segment_at 0 place ≡ segment
-segment_here place segment more is = rw is refl
-
-pub segment_after : (i : ℕ) (place segment rest : List ℕ) → segments place ≡ segment ∷ segments rest → 0 < i
-    → segment_at i place ≡ segment_at (i - 1) rest
-segment_after zero place segment rest is some = absurd (omega arith)
-segment_after (suc i) place segment rest is some = rw is (simp unary_clauses refl)
-
-pub no_segment_at : (i : ℕ) (place : List ℕ) → segments place ≡ [] → segment_at i place ≡ []
-no_segment_at i place is = rw is refl
-
-pub ruleset at_number = (segment_here, segment_after, no_segment_at)

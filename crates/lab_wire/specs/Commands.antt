@@ -1,8 +1,6 @@
--- What an accepted request asks of which laboratory: its route first, then the query or the body
--- that the route's command has. A query elsewhere is passed over, and so is the body of what is
--- read.
-use Rattle.std.specs.Prelude.{◌≡◌, ◌<◌, ◌⊎◌, ℕ, List, length, IsTrue, IsSome, IsOk, ⊤, Option, Some, None, Result, Ok, Err}
-use Rattle.std.specs.Str.Parse.{digits_value}
+-- What an accepted request asks of which laboratory: where it goes first, then the query or the body
+-- that its command has. A query elsewhere is passed over, and so is the body of what is read.
+use Rattle.std.specs.Prelude.{◌≡◌, ◌<◌, ◌⊎◌, ℕ, List, length, IsOk, Option, Some, None, Result, Ok, Err}
 use Rattle.lab_records_machine.specs.declared.commands.Command.{Command}
 use Rattle.lab_records_machine.specs.declared.commands.Command.TheVariants as command
 use Rattle.lab_records_machine.specs.declared.commands.SessionCommand.TheVariants as given
@@ -16,22 +14,15 @@ use Rattle.lab_wire.specs.declared.route_refusals.RouteRefusal.{RouteRefusal}
 use Rattle.lab_wire.specs.declared.route_refusals.RouteRefusal.TheVariants.{Body}
 use Rattle.lab_forms_texts.specs.declared.refusals.Fault.{Fault}
 use Rattle.lab_forms_texts.specs.declared.refusals.Fault.TheVariants.{Refused, Memory}
-use Rattle.lab_wire.specs.declared.routes.Route.{Route}
-use Rattle.lab_wire.specs.declared.routes.Route.TheVariants.{Card, Persons, Form, Record, Version, Records, Trail, Copy, Posted}
+use Rattle.lab_wire.specs.declared.aims.Aim.{Aim}
+use Rattle.lab_wire.specs.declared.aims.Aim.TheVariants.{Card, Persons, Form, Record, Version, Records, Trail, Copy, Posted}
 use Rattle.lab_wire.specs.declared.queries.Range.{Range}
 use Rattle.lab_wire_heads.specs.Requests.{RequestParts}
-use Rattle.lab_forms_texts.specs.Names.{is_key}
 use Rattle.lab_wire.specs.declared.commands.Asked.{Asked}
-use Rattle.lab_wire.specs.Numbers.{ordinal_in}
-use Rattle.lab_wire.specs.Paths.{segment_at}
 use Rattle.lab_wire.specs.Queries.{range_in}
 use Rattle.lab_wire.specs.Routes.{Destination, destination_of}
 
--- ---- the command of a route
-
--- the number in a segment that the route's row has admitted
-abbrev pub number_at : ℕ → List ℕ → ℕ
-number_at i place = digits_value 10 (segment_at i place)
+-- ---- the command of what is asked
 
 -- a command that reads, as one that is given in a session
 abbrev pub reads_in : ReadingCommand → Command
@@ -47,33 +38,23 @@ abbrev pub by_body : Reading Command → Result Command RouteRefusal
 by_body (Err refusal) = Err (Body refusal)
 by_body (Ok named) = Ok named
 
--- the command of a route at a place, with its query and its body
-unfoldable pub command_at : Route → List ℕ → List ℕ → List ℕ → Result Command RouteRefusal
-command_at Card place query body = Ok command.Card
-command_at Persons place query body = Ok (reads_in reading.ReadPersons)
-command_at Form place query body =
-    Ok (reads_in (reading.ReadForm (segment_at 1 place) (number_at 2 place)))
-command_at Record place query body = Ok (reads_in (reading.ReadRecord (number_at 1 place)))
-command_at Version place query body =
-    Ok (reads_in (reading.ReadVersion (number_at 1 place) (number_at 3 place)))
-command_at Records place query body = ranged reading.ReadRecords (range_in query)
-command_at Trail place query body = ranged reading.ReadTrail (range_in query)
-command_at Copy place query body = ranged reading.TakeCopy (range_in query)
-command_at (Posted post) place query body = by_body (body_named (post_named post) body)
+-- the command of what is asked, with its query and its body
+unfoldable pub command_at : Aim → List ℕ → List ℕ → Result Command RouteRefusal
+command_at Card query body = Ok command.Card
+command_at Persons query body = Ok (reads_in reading.ReadPersons)
+command_at (Form code version) query body = Ok (reads_in (reading.ReadForm code version))
+command_at (Record number) query body = Ok (reads_in (reading.ReadRecord number))
+command_at (Version number version) query body =
+    Ok (reads_in (reading.ReadVersion number version))
+command_at Records query body = ranged reading.ReadRecords (range_in query)
+command_at Trail query body = ranged reading.ReadTrail (range_in query)
+command_at Copy query body = ranged reading.TakeCopy (range_in query)
+command_at (Posted post) query body = by_body (body_named (post_named post) body)
 
--- ---- what the code may count on
+-- ---- why none is found
 
--- the segments that a route reads are those that its row admits
-abbrev pub Admitted : Route → List ℕ → Type 0
-Admitted Form place =
-    IsTrue (is_key (segment_at 1 place)) × IsSome (ordinal_in (segment_at 2 place))
-Admitted Record place = IsSome (ordinal_in (segment_at 1 place))
-Admitted Version place =
-    IsSome (ordinal_in (segment_at 1 place)) × IsSome (ordinal_in (segment_at 3 place))
-Admitted _ place = ⊤
-
--- a body with a byte is posted at the route: JSON is read into memory before it is known to be bad
-abbrev pub PostsBytes : Route → List ℕ → Type 0
+-- a body with a byte is posted: JSON is read into memory before it is known to be bad
+abbrev pub PostsBytes : Aim → List ℕ → Type 0
 PostsBytes (Posted post) body = 0 < length body
 PostsBytes _ body = ⊥
 
@@ -99,7 +80,7 @@ asked_of lab token (Ok given) =
 abbrev pub asked_at : RequestParts → Result Destination RouteRefusal → Result Asked RouteRefusal
 asked_at request (Err refusal) = Err refusal
 asked_at request (Ok to) =
-    asked_of to.lab request.token (command_at to.route to.place to.query request.body)
+    asked_of to.lab request.token (command_at to.aim to.query request.body)
 
 -- where a request goes
 unfoldable pub destination_in : RequestParts → Result Destination RouteRefusal
@@ -112,7 +93,7 @@ command_asked request = asked_at request (destination_in request)
 -- a body with a byte is posted where the request goes
 abbrev pub PostsBytesTo : Result Destination RouteRefusal → List ℕ → Type 0
 PostsBytesTo (Err refusal) body = ⊥
-PostsBytesTo (Ok to) body = PostsBytes to.route body
+PostsBytesTo (Ok to) body = PostsBytes to.aim body
 
 -- something is made of a request: it is known what it asks, whose laboratory and text are copied;
 -- or a body with a byte is posted, which is read into memory

@@ -1,3 +1,4 @@
+pub mod Aims
 pub mod Asked
 pub mod Commands
 pub mod Numbers

@@ -2,6 +2,7 @@
 -- (docs/HTTP.md has the same table; RFC 9110, sections 9 and 15.5.6; RFC 3986, section 3.3).
 use Rattle.std.specs.Prelude.{ℕ, Bool, true, false, List, [], ◌∷◌, ◌&&◌, ◌||◌, bytes_eq, find, if◌then◌else◌, is_some, Option, Some, None, Result, Ok, Err, codes}
 use Rattle.std.specs.List.{list_any}
+use Rattle.std.specs.Str.Parse.{digits_value}
 use Rattle.lab_forms_texts.specs.Names.{is_lab_code, is_key}
 use Rattle.lab_wire_bodies.specs.declared.bodies.Post.{Post}
 use Rattle.lab_wire_bodies.specs.declared.bodies.Post.TheVariants.{Open, Close, ChangePassword, Enrol, AskIssue, ConfirmIssue, SetRoles, Retire, Unlock, MakeForm, OpenRecord, Enter, Amend, Sign}
@@ -12,8 +13,10 @@ use Rattle.lab_wire.specs.declared.route_refusals.Allowed.TheVariants.{Get as Ge
 use Rattle.lab_wire.specs.declared.routes.Route.{Route}
 use Rattle.lab_wire.specs.declared.routes.Route.TheVariants.{Card, Persons, Form, Record, Version, Records, Trail, Copy, Posted}
 use Rattle.lab_wire.specs.declared.routes.Destination.{Destination as Found}
+use Rattle.lab_wire.specs.declared.aims.Aim.{Aim}
+use Rattle.lab_wire.specs.declared.aims.Aim.TheVariants as aim
 use Rattle.lab_wire.specs.Numbers.{ordinal_in}
-use Rattle.lab_wire.specs.Paths.{path_of, query_of, behind, labs_prefix, lab_in, place_in, segments}
+use Rattle.lab_wire.specs.Paths.{path_of, query_of, behind, labs_prefix, lab_in, place_in, segments, segment_at}
 
 -- ---- the table
 
@@ -125,36 +128,53 @@ unfoldable pub route_of : List ℕ → List ℕ → Result Route RouteRefusal
 route_of method place =
     if is_place place then route_or_allowed (route_row method place) (allowed place) else Err NoRoute
 
+-- ---- what a request asks
+
+-- the number in a segment that the route's row has admitted
+abbrev pub number_at : ℕ → List ℕ → ℕ
+number_at i place = digits_value 10 (segment_at i place)
+
+-- what a route asks at a place, with the parameters in the segments that its row has admitted
+abbrev pub aim_at : List ℕ → Route → Aim
+aim_at place Card = aim.Card
+aim_at place Persons = aim.Persons
+aim_at place Form = aim.Form (segment_at 1 place) (number_at 2 place)
+aim_at place Record = aim.Record (number_at 1 place)
+aim_at place Version = aim.Version (number_at 1 place) (number_at 3 place)
+aim_at place Records = aim.Records
+aim_at place Trail = aim.Trail
+aim_at place Copy = aim.Copy
+aim_at place (Posted post) = aim.Posted post
+
+abbrev pub aim_by : List ℕ → Result Route RouteRefusal → Result Aim RouteRefusal
+aim_by place (Err refusal) = Err refusal
+aim_by place (Ok route) = Ok (aim_at place route)
+
 -- ---- where a request goes
 
--- the laboratory, the place in it and the query, as written, and the route
+-- the laboratory and the query, as written, and what is asked
 pub record Destination : Type 0 where
   pub lab : List ℕ
-  pub place : List ℕ
   pub query : List ℕ
-  pub route : Route
+  pub aim : Aim
 
 -- as the code has it
 abbrev pub destination_shown : Found → Destination
-destination_shown found = record {
-  lab = found.lab.now;
-  place = found.place.now;
-  query = found.query.now;
-  route = found.route;
-}
+destination_shown found = record { lab = found.lab; query = found.query.now; aim = found.aim }
 
-abbrev pub destination_at : List ℕ → List ℕ → Result Route RouteRefusal →
+abbrev pub destination_at : List ℕ → List ℕ → Result Aim RouteRefusal →
     Result Destination RouteRefusal
-destination_at rest query (Err refusal) = Err refusal
-destination_at rest query (Ok route) =
-    Ok (record { lab = lab_in rest; place = place_in rest; query = query; route = route })
+destination_at lab query (Err refusal) = Err refusal
+destination_at lab query (Ok asked) = Ok (record { lab = lab; query = query; aim = asked })
 
 -- by what stands behind the prefix: the laboratory's code has to read, before the place and the
 -- method are looked at
 abbrev pub destination_in : List ℕ → List ℕ → Option (List ℕ) → Result Destination RouteRefusal
 destination_in method query None = Err NoRoute
 destination_in method query (Some rest) =
-    if is_lab_code (lab_in rest) then destination_at rest query (route_of method (place_in rest))
+    if is_lab_code (lab_in rest)
+    then destination_at (lab_in rest) query
+    (aim_by (place_in rest) (route_of method (place_in rest)))
     else Err NoRoute
 
 -- where a method and a target go

@@ -1,22 +1,18 @@
-//! What a request asks at the place where it goes: the command of its route, with the query or the
-//! body that the command needs.
-ghost use Rattle.std.specs.Prelude.{◌≡◌, ◌<◌, Ok, Err, IfOk, IfErr, IsTrue, IsSome, length, option_map};
-ghost use Rattle.lab_forms_texts.specs.Names.{is_key, is_lab_code};
+//! What a request asks at the place where it goes: its command, with the query or the body that the
+//! command needs.
+ghost use Rattle.std.specs.Prelude.{◌≡◌, ◌<◌, Ok, Err, IfOk, IfErr, length, option_map};
 ghost use Rattle.lab_wire_heads.specs.Requests.{parts_shown};
 ghost use Rattle.lab_wire_bodies.specs.Bodies.{post_named, body_named};
-ghost use Rattle.lab_records_machine.specs.declared.commands.ReadingCommand.TheVariants.{ReadForm, ReadRecord, ReadVersion, ReadRecords, ReadTrail, TakeCopy};
+ghost use Rattle.lab_records_machine.specs.declared.commands.ReadingCommand.TheVariants.{ReadForm, ReadRecords, ReadTrail, TakeCopy};
 ghost use Rattle.lab_forms_texts.specs.declared.refusals.Fault.TheVariants.{Memory};
-ghost use Rattle.lab_wire.specs.Numbers.{ordinal_in};
-ghost use Rattle.lab_wire.specs.Paths.{segment_at};
 ghost use Rattle.lab_wire.specs.Queries.{range_in};
-ghost use Rattle.lab_wire.specs.Commands.{number_at, by_body, reads_in, command_at, Admitted, PostsBytes, FaultFits, asked_of, command_asked, RouteFaultFits};
+ghost use Rattle.lab_wire.specs.Commands.{by_body, reads_in, command_at, PostsBytes, FaultFits, asked_of, command_asked, RouteFaultFits};
 
-use crate::numbers::ordinal_in;
-use crate::paths::segment_at;
+use crate::aims::{Admitted, Aim};
 use crate::queries::range_in;
 use crate::route_refusals::{RouteFault, RouteRefusal};
-use crate::routes::{Destination, Route, Routes};
-use lab_forms_texts::{Key, LabCode, NameFault, Ordinal};
+use crate::routes::{Destination, Routes};
+use lab_forms_texts::{Keys, LabCode, LabCodes, Ordinal};
 use lab_records_machine::{Command, Instruction, ReadingCommand, SessionCommand};
 use lab_seal_hashes::Token;
 use lab_wire_bodies::{Post, command_of as command_in};
@@ -36,18 +32,6 @@ pub struct Asked {
 /// The fault if a query states no range.
 const BAD_QUERY: RouteFault = RouteFault::Refused(RouteRefusal::Body(BodyRefusal::BadBody));
 
-// The number in a segment that the route's row has admitted.
-#[tactic(auto, using(crate::proofs::NumberLemmas::ordinal_is))]
-fn number_at(i: usize, place: &str) -> Ordinal
-    requires { IsSome (ordinal_in (segment_at i place.now)) }
-    ensures { result ≡ number_at i place.now }
-{
-    match ordinal_in(segment_at(i, place)) {
-        Some(number) => number,
-        None => unreachable!(),
-    }
-}
-
 // A reading command, as one that is given in a session.
 fn reads_in(command: ReadingCommand) -> Command
     ensures { result ≡ reads_in command }
@@ -55,41 +39,13 @@ fn reads_in(command: ReadingCommand) -> Command
     Command::In(SessionCommand::Reading(command))
 }
 
-// A version of a form.
-fn form(alloc: Global, place: &str) -> Result<Command, RouteFault>
-    requires key { IsTrue (is_key (segment_at 1 place.now)) }
-    requires version { IsSome (ordinal_in (segment_at 2 place.now)) }
-    ensures read { IfOk result (λ command. command
-        ≡ reads_in (ReadForm (segment_at 1 place.now) (number_at 2 place.now))) }
+// A version of a form. Only its key is copied.
+fn form(alloc: Global, code: &Admitted<'_, Keys>, version: Ordinal) -> Result<Command, RouteFault>
+    ensures read { IfOk result (λ command. command ≡ reads_in (ReadForm code.now version)) }
     ensures fault { IfErr result (λ fault. fault ≡ Memory) }
 {
-    let version = number_at(2, place);
-    match Key::parse(alloc, segment_at(1, place)) {
-        Ok(code) => Ok(reads_in(ReadingCommand::ReadForm { code, version })),
-        Err(NameFault::Memory) => Err(RouteFault::Memory),
-        Err(NameFault::Refused(_)) => unreachable!(),
-    }
-}
-
-// A record.
-fn record(place: &str) -> Command
-    requires { IsSome (ordinal_in (segment_at 1 place.now)) }
-    ensures { result ≡ reads_in (ReadRecord (number_at 1 place.now)) }
-{
-    let number = number_at(1, place);
-    reads_in(ReadingCommand::ReadRecord { number })
-}
-
-// A version of a record.
-fn version(place: &str) -> Command
-    requires record { IsSome (ordinal_in (segment_at 1 place.now)) }
-    requires version { IsSome (ordinal_in (segment_at 3 place.now)) }
-    ensures { result
-        ≡ reads_in (ReadVersion (number_at 1 place.now) (number_at 3 place.now)) }
-{
-    let number = number_at(1, place);
-    let version = number_at(3, place);
-    reads_in(ReadingCommand::ReadVersion { number, version })
+    let code = code.own(alloc)?;
+    Ok(reads_in(ReadingCommand::ReadForm { code, version }))
 }
 
 // Records from a number to a number.
@@ -142,50 +98,45 @@ fn posted_command(alloc: Global, post: Post, body: &[u8]) -> Result<Command, Rou
     }
 }
 
-// The command of a route at a place, with its query and its body.
+// The command of what is asked, with its query and its body.
 #[tactic(auto, using(crate::proofs::CommandLemmas::finding), unfolding(crate::specs::Commands::command_at))]
 fn command_at(alloc: Global, to: &Destination<'_>, body: &[u8]) -> Result<Command, RouteFault>
-    requires { Admitted to.now.route to.now.place.now }
     ensures read { IfOk result (λ command.
-        command_at to.now.route to.now.place.now to.now.query.now body.now ≡ Ok command) }
-    ensures fault { IfErr result (FaultFits (PostsBytes to.now.route body.now)
-        (command_at to.now.route to.now.place.now to.now.query.now body.now)) }
+        command_at to.now.aim to.now.query.now body.now ≡ Ok command) }
+    ensures fault { IfErr result (FaultFits (PostsBytes to.now.aim body.now)
+        (command_at to.now.aim to.now.query.now body.now)) }
 {
-    match to.route {
-        Route::Card => Ok(Command::Card),
-        Route::Persons => Ok(reads_in(ReadingCommand::ReadPersons)),
-        Route::Form => form(alloc, to.place),
-        Route::Record => Ok(record(to.place)),
-        Route::Version => Ok(version(to.place)),
-        Route::Records => records(to.query).ok_or(BAD_QUERY),
-        Route::Trail => trail(to.query).ok_or(BAD_QUERY),
-        Route::Copy => copy(to.query).ok_or(BAD_QUERY),
-        Route::Posted(post) => posted_command(alloc, post, body),
+    match &to.aim {
+        Aim::Card => Ok(Command::Card),
+        Aim::Persons => Ok(reads_in(ReadingCommand::ReadPersons)),
+        Aim::Form { code, version } => form(alloc, code, *version),
+        Aim::Record { number } => Ok(reads_in(ReadingCommand::ReadRecord { number: *number })),
+        Aim::Version { number, version } => Ok(reads_in(ReadingCommand::ReadVersion {
+            number: *number,
+            version: *version,
+        })),
+        Aim::Records => records(to.query).ok_or(BAD_QUERY),
+        Aim::Trail => trail(to.query).ok_or(BAD_QUERY),
+        Aim::Copy => copy(to.query).ok_or(BAD_QUERY),
+        Aim::Posted(post) => posted_command(alloc, *post, body),
     }
 }
 
 // The request to the laboratory with the code, once its command is known.
 fn asked_of(
     alloc: Global,
-    lab: &str,
+    lab: &Admitted<'_, LabCodes>,
     token: Option<Token>,
     command: Command,
 ) -> Result<Asked, RouteFault>
-    requires { IsTrue (is_lab_code lab.now) }
     ensures asks { IfOk result (λ asks. asked_of lab.now token (Ok command) ≡ Ok asks) }
     ensures fault { IfErr result (λ fault. fault ≡ Memory) }
 {
-    match LabCode::parse(alloc, lab) {
-        Ok(lab) => Ok(Asked {
-            lab,
-            instruction: Instruction { token, command },
-        }),
-        Err(NameFault::Memory) => {
-            drop(command);
-            Err(RouteFault::Memory)
-        }
-        Err(NameFault::Refused(_)) => unreachable!(),
-    }
+    let lab = lab.own(alloc)?;
+    Ok(Asked {
+        lab,
+        instruction: Instruction { token, command },
+    })
 }
 
 // What a request asks at the place where it goes. Its command is found before its laboratory's code
@@ -197,16 +148,13 @@ fn asked_at(
     to: &Destination<'_>,
     body: &[u8],
 ) -> Result<Asked, RouteFault>
-    requires lab { IsTrue (is_lab_code to.now.lab.now) }
-    requires segments { Admitted to.now.route to.now.place.now }
-    ensures asks { IfOk result (λ asks. asked_of to.now.lab.now token
-        (command_at to.now.route to.now.place.now to.now.query.now body.now) ≡ Ok asks) }
-    ensures fault { IfErr result (FaultFits (PostsBytes to.now.route body.now)
-        (asked_of to.now.lab.now token
-        (command_at to.now.route to.now.place.now to.now.query.now body.now))) }
+    ensures asks { IfOk result (λ asks. asked_of to.now.lab token
+        (command_at to.now.aim to.now.query.now body.now) ≡ Ok asks) }
+    ensures fault { IfErr result (FaultFits (PostsBytes to.now.aim body.now)
+        (asked_of to.now.lab token (command_at to.now.aim to.now.query.now body.now))) }
 {
     match command_at(alloc, to, body) {
-        Ok(command) => asked_of(alloc, to.lab, token, command),
+        Ok(command) => asked_of(alloc, &to.lab, token, command),
         Err(fault) => Err(fault),
     }
 }

@@ -3,6 +3,7 @@
 //! from the crates below.
 #![tactic(auto)]
 
+mod aims;
 mod asked;
 mod commands;
 mod numbers;
@@ -14,6 +15,7 @@ mod route_refusals;
 mod routes;
 mod statuses;
 
+pub use aims::{Admitted, Aim};
 pub use asked::{ask, ask_received};
 pub use commands::{Asked, command_of};
 pub use lab_forms_streams::{WriteFault, write_whole};
@@ -27,4 +29,4 @@ pub use lab_wire_received::{Received, read_request};
 pub use refusals::{RequestFault, RequestRefusal};
 pub use replies::{Answer, memory_reply, reply_bytes};
 pub use route_refusals::{Allowed, RouteFault, RouteRefusal};
-pub use routes::{Destination, Route, Routes};
+pub use routes::{Destination, Routes};

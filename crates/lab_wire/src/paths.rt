@@ -1,6 +1,6 @@
 //! The parts of a target: path and query, and in a path the laboratory and the place in it.
 ghost use Rattle.std.specs.Prelude.{◌≡◌, ◌∷◌, [], option_map, MatchOption};
-ghost use Rattle.lab_wire.specs.Paths.{path_of, query_of, behind, lab_in, place_in, segments, segment_at};
+ghost use Rattle.lab_wire.specs.Paths.{path_of, query_of, behind, lab_in, place_in, segments};
 
 /// Returns the path of a target, which a query may follow.
 pub fn path_of(target: &str) -> &str
@@ -51,21 +51,4 @@ pub fn next_segment(place: &str) -> Option<(&str, &str)>
         Some((_, rest)) => Some((lab_in(rest), place_in(rest))),
         None => None,
     }
-}
-
-/// Returns the segment with a number, counted from 0.
-#[tactic(auto, using(crate::proofs::PathLemmas::at_number))]
-pub fn segment_at(i: usize, place: &str) -> &str
-    ensures { result.now ≡ segment_at i place.now }
-{
-    let mut rest = place;
-    let mut left = i;
-    while let Some((segment, after)) = next_segment(rest) {
-        if left == 0 {
-            return segment;
-        }
-        left -= 1;
-        rest = after;
-    }
-    ""
 }

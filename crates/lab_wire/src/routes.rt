@@ -1,18 +1,19 @@
 //! Where a request goes, by its method and its path: a table with each place in a laboratory, and
 //! the router of this table.
-ghost use Rattle.std.specs.Prelude.{◌≡◌, ◌<◌, length, option_map, map, Ok, Err, IfOk, IfErr};
+ghost use Rattle.std.specs.Prelude.{◌≡◌, ◌<◌, length, option_map, map, Some, Ok, Err, IfSome, IfOk, IfErr};
 ghost use Rattle.matchit.specs.Seek.{first};
 ghost use Rattle.matchit.specs.declared.error.InsertError.TheVariants.{OutOfMemory as MemoryRanOut};
 ghost use Rattle.lab_wire.specs.Paths.{place_in, segments};
-ghost use Rattle.lab_wire.specs.Routes.{is_number_mark, is_key_mark, admits, all_admitted, route_of, destination_shown, destination_of};
+ghost use Rattle.lab_wire.specs.Aims.{no_parts, parts_from};
+ghost use Rattle.lab_wire.specs.Routes.{route_of, aim_by, destination_shown, destination_of};
 ghost use Rattle.lab_wire.specs.Places.{place_shown, place_at, texts, places, asked_by, allowed_at, place_to, route_or_methods};
 ghost use Rattle.lab_wire.specs.Router.{text_at, router_of_table};
 
-use crate::numbers::ordinal_in;
-use crate::paths::{behind, lab_in, next_segment, path_of, place_in, query_of};
+use crate::aims::{Admitted, Aim, Parts, aim_of, parts_by};
+use crate::paths::{behind, lab_in, path_of, place_in, query_of};
 use crate::route_refusals::{Allowed, RouteRefusal};
 use http::Method;
-use lab_forms_texts::{Keys, LabCodes, OutOfMemory, TextRule};
+use lab_forms_texts::{LabCodes, OutOfMemory};
 use lab_wire_bodies::Post;
 use matchit::{InsertError, Router};
 use std::alloc::Global;
@@ -54,16 +55,14 @@ pub struct Place {
 }
 
 /// Where a request goes.
-#[derive(Clone, Copy, Debug, PartialEq, Eq, Drop)]
+#[derive(Drop)]
 pub struct Destination<'t> {
-    /// The laboratory's code, as written.
-    pub lab: &'t str,
-    /// The place in the laboratory, as written.
-    pub place: &'t str,
+    /// The laboratory's code.
+    pub lab: Admitted<'t, LabCodes>,
     /// The query, as written.
     pub query: &'t str,
-    /// What the request asks.
-    pub route: Route,
+    /// What the request asks there.
+    pub aim: Aim<'t>,
 }
 
 // A place that can only be read.
@@ -152,51 +151,6 @@ fn memory_alone(fault: InsertError) -> OutOfMemory
         InsertError::OutOfMemory => OutOfMemory,
         _ => unreachable!(),
     }
-}
-
-fn is_number_mark(mark: &str) -> bool
-    ensures { result ≡ is_number_mark mark.now }
-{
-    mark == "{record}" || mark == "{version}"
-}
-
-fn is_key_mark(mark: &str) -> bool
-    ensures { result ≡ is_key_mark mark.now }
-{
-    mark == "{form}"
-}
-
-// Whether a segment of the table's text admits a segment of a path.
-#[tactic(auto, unfolding(crate::specs::Routes::admits))]
-fn admits(mark: &str, segment: &str) -> bool
-    ensures { result ≡ admits mark.now segment.now }
-{
-    if is_key_mark(mark) {
-        Keys::admits(segment)
-    } else if is_number_mark(mark) {
-        ordinal_in(segment).is_some()
-    } else {
-        mark == segment
-    }
-}
-
-// Whether a place's text admits a place: the two have the same number of segments, and each is
-// admitted.
-fn is_to(place: &str, text: &str) -> bool
-    ensures { result ≡ all_admitted (segments text.now) (segments place.now) }
-{
-    let mut marks = text;
-    let mut rest = place;
-    while let Some((mark, marks_after)) = next_segment(marks) {
-        match next_segment(rest) {
-            Some((segment, after)) if admits(mark, segment) => {
-                marks = marks_after;
-                rest = after;
-            }
-            _ => return false,
-        }
-    }
-    next_segment(rest).is_none()
 }
 
 impl Place {
@@ -294,31 +248,32 @@ impl Routes {
         }
     }
 
-    // The place of the table for what follows a laboratory's code. The router finds the place by
-    // its words; then each segment is checked, and must be admitted.
-    fn place_to(&self, rest: &str) -> Option<Place>
-        ensures { option_map place_shown result ≡ place_to (place_in rest.now) }
+    // The place of the table for what follows a laboratory's code, and the parameters of the path.
+    // The router finds the place by its words; then each segment is read, and must be admitted.
+    fn place_to<'t>(&self, rest: &'t str) -> Option<(Place, Parts<'t>)>
+        ensures place { option_map (λ found. place_shown found.0) result
+            ≡ place_to (place_in rest.now) }
+        ensures parts { IfSome result (λ found. parts_from no_parts
+            (segments found.0.text.now) (segments (place_in rest.now)) ≡ Some found.1) }
     {
         let place = place_in(rest);
-        let Some(number) = self.number_of(place) else {
-            return None;
-        };
+        let number = self.number_of(place)?;
         let near = place_of_number(number);
-        if is_to(place, near.text) {
-            Some(near)
-        } else {
-            None
-        }
+        let parts = parts_by(near.text, place)?;
+        Some((near, parts))
     }
 
-    // The route of a method at the place after a laboratory's code: first the place must exist,
-    // then the method must be one of its own.
-    fn route_of(&self, method: &[u8], rest: &str) -> Result<Route, RouteRefusal>
-        ensures { result ≡ route_of method.now (place_in rest.now) }
+    // What a method asks at the place after a laboratory's code: first the place must exist, then
+    // the method must be one of its own.
+    fn aim_by<'t>(&self, method: &[u8], rest: &'t str) -> Result<Aim<'t>, RouteRefusal>
+        ensures { result ≡ aim_by (place_in rest.now) (route_of method.now (place_in rest.now)) }
     {
-        match self.place_to(rest) {
-            Some(place) => place.route_by(self.alloc, method),
-            None => Err(RouteRefusal::NoRoute),
+        let Some((near, parts)) = self.place_to(rest) else {
+            return Err(RouteRefusal::NoRoute);
+        };
+        match near.route_by(self.alloc, method) {
+            Ok(route) => aim_of(route, parts).ok_or(RouteRefusal::NoRoute),
+            Err(refusal) => Err(refusal),
         }
     }
 
@@ -342,16 +297,14 @@ impl Routes {
         let Some(rest) = behind(LABS_PREFIX, path_of(target)) else {
             return Err(RouteRefusal::NoRoute);
         };
-        let lab = lab_in(rest);
-        if !LabCodes::admits(lab) {
+        let Some(lab) = Admitted::of(lab_in(rest)) else {
             return Err(RouteRefusal::NoRoute);
-        }
-        match self.route_of(method, rest) {
-            Ok(route) => Ok(Destination {
+        };
+        match self.aim_by(method, rest) {
+            Ok(aim) => Ok(Destination {
                 lab,
-                place: place_in(rest),
                 query: query_of(target),
-                route,
+                aim,
             }),
             Err(refusal) => Err(refusal),
         }

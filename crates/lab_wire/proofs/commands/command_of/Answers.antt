@@ -1,17 +1,8 @@
 use Rattle.lab_wire_heads.specs.Requests.{parts_shown}
 use Rattle.lab_wire.specs.Routes.{destination_shown}
 use Rattle.lab_wire.specs.Commands.{destination_in}
-use Rattle.lab_wire.proofs.TableLemmas.{reached}
 use Rattle.lab_wire.proofs.CommandLemmas.{asks_there, fault_there, goes_nowhere}
 use Rattle.lab_wire.proofs.commands.command_of.Goals as goal
-
-pub asked_at-requires-clause-lab : goal.asked_at-requires-clause-lab
-asked_at-requires-clause-lab c =
-    (reached c.args.parts.now.method.now c.args.parts.now.target.now (destination_shown c.in-Ok.to) c.in-Ok.ensures.found).lab
-
-pub asked_at-requires-clause-segments : goal.asked_at-requires-clause-segments
-asked_at-requires-clause-segments c =
-    (reached c.args.parts.now.method.now c.args.parts.now.target.now (destination_shown c.in-Ok.to) c.in-Ok.ensures.found).segments
 
 pub returns-in-Ok-clause-asks : goal.returns-in-Ok-clause-asks
 unfolding destination_in
