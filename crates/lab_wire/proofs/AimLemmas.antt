@@ -108,9 +108,9 @@ form_of p q r given key n word is number whole =
 form_given : (parts : List (List ℕ)) (given : Parts) → parts_from no_parts (codes "forms" ∷ codes "{form}" ∷ codes "{version}" ∷ []) parts ≡ Some given
     → aim_of Form given.first given.second ≡ Some (aim.Form (slice_index_or parts 1 []) (digits_value 10 (slice_index_or parts 2 [])))
 form_given [] given is = absurd (cc)
-form_given (a ∷ []) given is = absurd (omega (arith, same_size no_parts _ (a ∷ []) given is))
-form_given (a ∷ b ∷ []) given is = absurd (omega (arith, same_size no_parts _ (a ∷ b ∷ []) given is))
-form_given (a ∷ b ∷ c ∷ d ∷ more) given is = absurd (omega (arith, same_size no_parts _ (a ∷ b ∷ c ∷ d ∷ more) given is))
+form_given (a ∷ []) given is = absurd (omega (arith, same_size no_parts (codes "forms" ∷ codes "{form}" ∷ codes "{version}" ∷ []) (a ∷ []) given is))
+form_given (a ∷ b ∷ []) given is = absurd (omega (arith, same_size no_parts (codes "forms" ∷ codes "{form}" ∷ codes "{version}" ∷ []) (a ∷ b ∷ []) given is))
+form_given (a ∷ b ∷ c ∷ d ∷ more) given is = absurd (omega (arith, same_size no_parts (codes "forms" ∷ codes "{form}" ∷ codes "{version}" ∷ []) (a ∷ b ∷ c ∷ d ∷ more) given is))
 form_given (a ∷ b ∷ c ∷ []) given is =
     let one = given_by (λ p. parts_from (with_part no_parts p) (codes "{form}" ∷ codes "{version}" ∷ []) (b ∷ c ∷ [])) (part_of (codes "forms") a) given is in
     let two = given_by (λ p. parts_from (with_part (with_part no_parts one.0) p) (codes "{version}" ∷ []) (c ∷ [])) (part_of (codes "{form}") b) given one.2 in
@@ -127,8 +127,8 @@ record_of p q given n word number whole =
 record_given : (parts : List (List ℕ)) (given : Parts) → parts_from no_parts (codes "records" ∷ codes "{record}" ∷ []) parts ≡ Some given
     → aim_of Record given.first given.second ≡ Some (aim.Record (digits_value 10 (slice_index_or parts 1 [])))
 record_given [] given is = absurd (cc)
-record_given (a ∷ []) given is = absurd (omega (arith, same_size no_parts _ (a ∷ []) given is))
-record_given (a ∷ b ∷ c ∷ more) given is = absurd (omega (arith, same_size no_parts _ (a ∷ b ∷ c ∷ more) given is))
+record_given (a ∷ []) given is = absurd (omega (arith, same_size no_parts (codes "records" ∷ codes "{record}" ∷ []) (a ∷ []) given is))
+record_given (a ∷ b ∷ c ∷ more) given is = absurd (omega (arith, same_size no_parts (codes "records" ∷ codes "{record}" ∷ []) (a ∷ b ∷ c ∷ more) given is))
 record_given (a ∷ b ∷ []) given is =
     let one = given_by (λ p. parts_from (with_part no_parts p) (codes "{record}" ∷ []) (b ∷ [])) (part_of (codes "records") a) given is in
     let two = given_by (λ p. parts_from (with_part (with_part no_parts one.0) p) [] []) (part_of (codes "{record}") b) given one.2 in
@@ -146,10 +146,10 @@ version_given : (parts : List (List ℕ)) (given : Parts)
     → aim_of Version given.first given.second
     ≡ Some (aim.Version (digits_value 10 (slice_index_or parts 1 [])) (digits_value 10 (slice_index_or parts 3 [])))
 version_given [] given is = absurd (cc)
-version_given (a ∷ []) given is = absurd (omega (arith, same_size no_parts _ (a ∷ []) given is))
-version_given (a ∷ b ∷ []) given is = absurd (omega (arith, same_size no_parts _ (a ∷ b ∷ []) given is))
-version_given (a ∷ b ∷ c ∷ []) given is = absurd (omega (arith, same_size no_parts _ (a ∷ b ∷ c ∷ []) given is))
-version_given (a ∷ b ∷ c ∷ d ∷ e ∷ more) given is = absurd (omega (arith, same_size no_parts _ (a ∷ b ∷ c ∷ d ∷ e ∷ more) given is))
+version_given (a ∷ []) given is = absurd (omega (arith, same_size no_parts (codes "records" ∷ codes "{record}" ∷ codes "versions" ∷ codes "{version}" ∷ []) (a ∷ []) given is))
+version_given (a ∷ b ∷ []) given is = absurd (omega (arith, same_size no_parts (codes "records" ∷ codes "{record}" ∷ codes "versions" ∷ codes "{version}" ∷ []) (a ∷ b ∷ []) given is))
+version_given (a ∷ b ∷ c ∷ []) given is = absurd (omega (arith, same_size no_parts (codes "records" ∷ codes "{record}" ∷ codes "versions" ∷ codes "{version}" ∷ []) (a ∷ b ∷ c ∷ []) given is))
+version_given (a ∷ b ∷ c ∷ d ∷ e ∷ more) given is = absurd (omega (arith, same_size no_parts (codes "records" ∷ codes "{record}" ∷ codes "versions" ∷ codes "{version}" ∷ []) (a ∷ b ∷ c ∷ d ∷ e ∷ more) given is))
 version_given (a ∷ b ∷ c ∷ d ∷ []) given is =
     let one = given_by (λ p. parts_from (with_part no_parts p) (codes "{record}" ∷ codes "versions" ∷ codes "{version}" ∷ []) (b ∷ c ∷ d ∷ []))
     (part_of (codes "records") a) given is in

@@ -1,9 +1,9 @@
-//! What a request asks, with the parameters of its path. Each segment of a path is read once, by
-//! the segment of the table's text in its place.
+//! What a request asks, with the parameters of its path. Each segment of a path is read once, as the
+//! table's text says.
 ghost use Rattle.std.specs.Prelude.{◌≡◌, if◌then◌else◌, Some, None, IfOk};
 ghost use Rattle.lab_wire.specs.Paths.{segments};
 ghost use Rattle.lab_wire.specs.Routes.{is_number_mark, is_key_mark};
-ghost use Rattle.lab_wire.specs.Aims.{part_of, with_part, no_parts, parts_from, aim_of};
+ghost use Rattle.lab_wire.specs.Aims.{part_of, key_in, number_in, with_part, no_parts, parts_from, form_of, aim_of};
 
 use crate::numbers::ordinal_in;
 use crate::paths::next_segment;
@@ -67,7 +67,7 @@ impl<'t, R: TextRule> Admitted<'t, R> {
 /// What a segment of a path gives.
 #[derive(Drop)]
 pub enum Part<'t> {
-    /// Nothing: it is a word of the table.
+    /// Nothing, because it is a word of the table.
     Word,
     /// The key of a form.
     Key(Admitted<'t, Keys>),
@@ -75,7 +75,7 @@ pub enum Part<'t> {
     Number(Ordinal),
 }
 
-/// The parameters of a path: at most two, of which the last comes second.
+/// The parameters of a path. There are at most two, and the last one is in `second`.
 #[derive(Drop)]
 pub struct Parts<'t> {
     /// The first of two.
@@ -147,6 +147,28 @@ fn part_of<'t>(mark: &str, segment: &'t str) -> Option<Part<'t>>
     }
 }
 
+impl<'t> Part<'t> {
+    // The key, if the part is one.
+    fn key(self) -> Option<Admitted<'t, Keys>>
+        ensures { result ≡ key_in self.entry }
+    {
+        match self {
+            Part::Key(key) => Some(key),
+            _ => None,
+        }
+    }
+
+    // The number, if the part is one.
+    fn number(&self) -> Option<Ordinal>
+        ensures { result ≡ number_in self.now }
+    {
+        match self {
+            Part::Number(number) => Some(*number),
+            _ => None,
+        }
+    }
+}
+
 impl<'t> Parts<'t> {
     // These parameters and one more, unless the part is a word.
     fn with(self, part: Part<'t>) -> Parts<'t>
@@ -185,22 +207,33 @@ pub fn parts_by<'t>(text: &str, place: &'t str) -> Option<Parts<'t>>
     }
 }
 
+// A version of a form.
+fn form_of<'t>(parts: Parts<'t>) -> Option<Aim<'t>>
+    ensures { result ≡ form_of (key_in parts.entry.first) (number_in parts.entry.second) }
+{
+    let version = parts.second.number()?;
+    let code = parts.first.key()?;
+    Some(Aim::Form { code, version })
+}
+
 /// Returns what a route asks with its parameters, if they are those of the route.
 pub fn aim_of<'t>(route: Route, parts: Parts<'t>) -> Option<Aim<'t>>
     ensures { result ≡ aim_of route parts.entry.first parts.entry.second }
 {
-    match (route, parts.first, parts.second) {
-        (Route::Card, _, _) => Some(Aim::Card),
-        (Route::Persons, _, _) => Some(Aim::Persons),
-        (Route::Form, Part::Key(code), Part::Number(version)) => Some(Aim::Form { code, version }),
-        (Route::Record, _, Part::Number(number)) => Some(Aim::Record { number }),
-        (Route::Version, Part::Number(number), Part::Number(version)) => {
-            Some(Aim::Version { number, version })
-        }
-        (Route::Records, _, _) => Some(Aim::Records),
-        (Route::Trail, _, _) => Some(Aim::Trail),
-        (Route::Copy, _, _) => Some(Aim::Copy),
-        (Route::Posted(post), _, _) => Some(Aim::Posted(post)),
-        _ => None,
+    match route {
+        Route::Card => Some(Aim::Card),
+        Route::Persons => Some(Aim::Persons),
+        Route::Form => form_of(parts),
+        Route::Record => Some(Aim::Record {
+            number: parts.second.number()?,
+        }),
+        Route::Version => Some(Aim::Version {
+            number: parts.first.number()?,
+            version: parts.second.number()?,
+        }),
+        Route::Records => Some(Aim::Records),
+        Route::Trail => Some(Aim::Trail),
+        Route::Copy => Some(Aim::Copy),
+        Route::Posted(post) => Some(Aim::Posted(post)),
     }
 }
