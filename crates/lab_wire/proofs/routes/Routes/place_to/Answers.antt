@@ -31,7 +31,7 @@ returns-in_err-parts-clause-place c =
     let text : near.text.now ≡ text_at c.in_ok-number.number = ap (λ (p : Place). p.text) c.place_of_number-near.ensures in
     let not : all_admitted (segments (text_at c.in_ok-number.number)) (segments place) ≡ false =
     rw (sym text, sym c.place_in-place.ensures) (admitted_if near.text.now c.place_in-place.result.now _ c.parts_by.ensures ∙ ap is_some c.in_err-parts.was) in
-    ap (option_map (λ (f : PlaceOfCode × Parts). place_shown f.0)) c.from_residual.ensures
+    ap (option_map (λ (f : PlaceOfCode × Parts). place_shown f.0)) c.from_residual-in_err-parts.ensures
     ∙ numbered_elsewhere place (place_begins c.args.rest.now) c.in_ok-number.number found not
 
 pub returns-clause-place : goal.returns-clause-place
