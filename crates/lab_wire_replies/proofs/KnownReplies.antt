@@ -14,7 +14,7 @@ use Rattle.lab_forms.specs.declared.kinds.Kind.TheVariants.{Number, Text, Choice
 use Rattle.lab_records_kept.specs.declared.records.FormVersion.{FormVersion}
 use Rattle.lab_records_kept.specs.declared.records.Signature.{Signature}
 use Rattle.lab_records_kept.specs.declared.trails.Action.TheVariants.{Found, Amend}
-use Rattle.lab_records_kept.proofs.KnownDefaults.{bare_entry, bare_field, bare_form, bare_record, bare_signature, bare_told, bare_version}
+use Rattle.lab_records_kept.proofs.KnownDefaults.{bare_entry, bare_field, bare_form, bare_signature, bare_told, bare_version}
 use Rattle.lab_seal_versions.specs.declared.seals.Meaning.TheVariants.{Authorship, Review, Rejection, Approval}
 use Rattle.lab_seal_versions.specs.declared.states.State.TheVariants as state
 use Rattle.lab_seal_versions.specs.declared.rows.EntryRow.{EntryRow}
@@ -217,7 +217,7 @@ unfolding serde_json_on_literals digits encode_with moment_text year_of place_in
 known_later_signatures = (refl, refl, refl, refl)
 
 pub known_records :
-    (reply_text (reply.RecordRead (record bare_record {
+    (reply_text (reply.RecordRead (record {
       number = 1;
       form = water;
       sample = codes "S1";
@@ -240,7 +240,7 @@ known_records = (refl, refl, refl)
 
 -- versions that were reviewed and rejected; null stands in place of what is not there
 pub known_states :
-    (reply_text (reply.RecordRead (record bare_record {
+    (reply_text (reply.RecordRead (record {
       number = 2;
       form = air;
       sample = codes "S2";
@@ -252,7 +252,12 @@ pub known_states :
     ++ codes "\"versions\":[{\"digest\":\"ab\",\"state\":\"rejected\",\"version\":1},"
     ++ codes "{\"digest\":\"cd\",\"state\":\"reviewed\",\"version\":2},{\"digest\":\"ce\","
     ++ codes "\"state\":null,\"version\":3}]}")
-    × (reply_text (reply.RecordRead (record bare_record { number = 2; form = air; sample = codes "S2" }))
+    × (reply_text (reply.RecordRead (record {
+      number = 2;
+      form = air;
+      sample = codes "S2";
+      versions = [];
+    }))
     ≡ codes "{\"current\":null,\"form\":\"air\",\"form_version\":3,\"record\":2,\"sample\":\"S2\","
     ++ codes "\"versions\":[]}")
     × (reply_text (reply.Records (record {
