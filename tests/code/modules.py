@@ -134,7 +134,7 @@ def look_at_browsers(modules):
     for what, (pattern, file) in DECIDING.items():
         say(re.search(pattern, (PAGES / file).read_text()), f"{what} is in {file}, as docs/PAGES.md says")
     document = (TOP / "docs/PAGES.md").read_text()
-    lacking = [one for one in (FLOOR, "`:has()`", "`AbortSignal.timeout`", "`findLast`", "look behind") if one not in document]
+    lacking = [one for one in (FLOOR, "`:has()`", "`AbortSignal.timeout`", "`findLast`", "look-behind") if one not in document]
     same("docs/PAGES.md says which browsers are meant, and what decides that", lacking, [])
     newer = [(name, what) for name, text in modules.items() for pattern, what in NEWER.items() if re.search(pattern, COMMENT.sub("", text))]
     for file in ("style.css", "print.css"):
