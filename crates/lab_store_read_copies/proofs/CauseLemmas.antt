@@ -58,18 +58,6 @@ pub none_blamed : {T : Type 0} {Then : Tables → Type 0} {old new : State} {don
     new.step_limit ≡ old.step_limit → CopyHasItsCause Then old new (Ok done)
 none_blamed limit = record { limit = limit; cause = λ ready clean readable. tt }
 
--- rows that didn't, for another cause than the store, whose fault the end passes on
-pub never_blamed : {T : Type 0} {Then : Tables → Type 0} {old new : State} →
-    new.step_limit ≡ old.step_limit → (fault : CopyOutFault) → CopyFaultFits ⊥ ⊥ (Unit {0}) fault →
-    (end : Result T CopyOutFault) → IsErrAnd end (λ told. told ≡ fault) →
-    CopyHasItsCause Then old new end
-never_blamed limit fault fits (Ok done) failed = absurd failed
-never_blamed limit fault fits (Err told) failed = record {
-  limit = limit;
-  cause = λ ready clean readable is.
-      absurd (subst (CopyFaultFits ⊥ ⊥ (Unit {0})) (sym failed ∙ is) fits);
-}
-
 -- a reader's fault
 told_of : (fault : Fault BadStore) → keeper_told fault ≡ Storage → fault ≡ storage
 told_of (Refused bad) told = refl
@@ -91,24 +79,6 @@ pub blamed_too : {A T : Type 0} {Was Then : Tables → Type 0} {old new : State}
     (Then (tables_of old) → Was (tables_of old)) →
     CopyHasItsCause {T = T} Then old new (Err fault)
 blamed_too it f = record {
-  limit = it.limit;
-  cause = λ ready clean readable. it.cause ready clean (f readable);
-}
-
-pub passed_on : {A T : Type 0} {Then : Tables → Type 0} {old new : State} {fault : CopyOutFault} →
-    CopyHasItsCause {T = A} Then old new (Err fault) → (end : Result T CopyOutFault) →
-    IsErrAnd end (λ told. told ≡ fault) → CopyHasItsCause Then old new end
-passed_on it (Ok done) failed = absurd failed
-passed_on it (Err told) failed = record {
-  limit = it.limit;
-  cause = λ ready clean readable is. it.cause ready clean readable (sym failed ∙ is);
-}
-
--- the cause in other words
-pub cause_as : {T : Type 0} {Was Then : Tables → Type 0} {old new : State}
-    {result : Result T CopyOutFault} → CopyHasItsCause Was old new result →
-    (Then (tables_of old) → Was (tables_of old)) → CopyHasItsCause Then old new result
-cause_as it f = record {
   limit = it.limit;
   cause = λ ready clean readable. it.cause ready clean (f readable);
 }

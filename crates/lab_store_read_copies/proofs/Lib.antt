@@ -1,4 +1,5 @@
 mod CauseLemmas
+pub mod GivesLemmas
 pub mod GoneLemmas
 pub mod FoundLemmas
 pub mod RowLemmas

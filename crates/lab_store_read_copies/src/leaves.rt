@@ -1,16 +1,14 @@
 //! What is written of a record: its own row, and the rows of a version, read from the tables.
 
-ghost use Rattle.std.specs.Prelude.{◌≡◌, is_some, IfErr, IfOk, IsFalse, OnOk};
-ghost use Rattle.sqlite.specs.State.{HasCleanDisk, IsUnchanged};
-ghost use Rattle.lab_copy_rows.specs.Outs.{Sends, counted_all};
-ghost use Rattle.lab_store_read_copies.specs.Causes.{CopyHasItsCause, HasPage};
+ghost use Rattle.std.specs.Prelude.{◌≡◌, is_some, IfOk, IsFalse};
+ghost use Rattle.sqlite.specs.State.{HasCleanDisk};
+ghost use Rattle.lab_store_read_copies.specs.Causes.{HasPage};
+ghost use Rattle.lab_store_read_copies.specs.Gives.{Gives, SendsRows};
 ghost use Rattle.lab_store_read_copies.specs.Pages.{cover_rows, page_rows};
 ghost use Rattle.lab_store_read_records.specs.Leaves.{leaf_by, leaf_of};
 ghost use Rattle.lab_store_read_records.specs.Readable.{is_placed};
-ghost use Rattle.lab_copy_rows.specs.Csv.{csv_text};
 ghost use Rattle.lab_store_tables.specs.Meaning.{version_after};
-ghost use Rattle.lab_store_tables.specs.Ready.{IsReady, PassesBy, tables_of};
-ghost use Rattle.lab_records_copy_out.specs.Faults.{CopyFaultFits};
+ghost use Rattle.lab_store_tables.specs.Ready.{IsReady, tables_of};
 
 use crate::faults::page_fault;
 use lab_copy_rows::CopyOut;
@@ -35,12 +33,8 @@ pub fn give_cover<W: Write>(
     out: &mut CopyOut,
     writer: &mut W,
 ) -> Result<(), CopyOutFault>
-    ensures text { Sends (W.contents writer.old) (W.contents writer.new)
-        (csv_text (cover_rows lab.now cover.now)) result }
-    ensures counts { OnOk result (out.new ≡ record out.old {
-      counts = counted_all out.old.counts (cover_rows lab.now cover.now);
-    }) }
-    ensures fault { IfErr result (CopyFaultFits ⊥ ⊥ (Unit {0})) }
+    ensures { SendsRows ⊥ (cover_rows lab.now cover.now)
+        (W.contents writer.old) (W.contents writer.new) out.old out.new result }
 {
     let row = record_row(alloc, lab, cover)?;
     out.give(alloc, writer, &[row])?;
@@ -56,12 +50,8 @@ fn give_version<W: Write>(
     out: &mut CopyOut,
     writer: &mut W,
 ) -> Result<(), CopyOutFault>
-    ensures text { Sends (W.contents writer.old) (W.contents writer.new)
-        (csv_text (page_rows lab.now cover.now version.now)) result }
-    ensures counts { OnOk result (out.new ≡ record out.old {
-      counts = counted_all out.old.counts (page_rows lab.now cover.now version.now);
-    }) }
-    ensures fault { IfErr result (CopyFaultFits ⊥ ⊥ (Unit {0})) }
+    ensures { SendsRows ⊥ (page_rows lab.now cover.now version.now)
+        (W.contents writer.old) (W.contents writer.new) out.old out.new result }
 {
     let rows = version_rows(alloc, lab, cover, version)?;
     out.give(alloc, writer, rows.as_slice())?;
@@ -79,17 +69,11 @@ fn give_leaf<W: Write>(
     out: &mut CopyOut,
     writer: &mut W,
 ) -> Result<Version, CopyOutFault>
-    ensures text { Sends (W.contents writer.old) (W.contents writer.new)
-        (csv_text (page_rows lab.now cover.now (version_after cover.now before (leaf_of leaf))))
-        result }
-    ensures counts { OnOk result (out.new ≡ record out.old {
-      counts = counted_all out.old.counts
-          (page_rows lab.now cover.now (version_after cover.now before (leaf_of leaf)));
-    }) }
+    ensures sends { SendsRows (IsFalse (is_placed (is_some before) leaf.number leaf.reason))
+        (page_rows lab.now cover.now (version_after cover.now before (leaf_of leaf)))
+        (W.contents writer.old) (W.contents writer.new) out.old out.new result }
     ensures version { IfOk result
         (λ version. version ≡ version_after cover.now before (leaf_of leaf)) }
-    ensures fault { IfErr result (CopyFaultFits ⊥
-        (IsFalse (is_placed (is_some before) leaf.number leaf.reason)) (Unit {0})) }
 {
     let Some(version) = version_after(cover, before, leaf) else {
         return Err(CopyOutFault::Storage);
@@ -114,23 +98,13 @@ pub fn give_page<D: Readable, W: Write>(
     out: &mut CopyOut,
     writer: &mut W,
 ) -> Result<Version, CopyOutFault>
-    ensures passes { PassesBy (D.state conn.old) (D.state conn.new) }
-    ensures same { HasCleanDisk (D.state conn.new) →
-        OnOk result (IsUnchanged (D.state conn.old) (D.state conn.new)) }
-    ensures text { IsReady (D.state conn.old) → HasCleanDisk (D.state conn.new) →
-        Sends (W.contents writer.old) (W.contents writer.new) (csv_text (page_rows lab.now cover.now
-        (version_after cover.now before (leaf_by (tables_of (D.state conn.old)) head)))) result }
-    ensures counts { IsReady (D.state conn.old) → HasCleanDisk (D.state conn.new) →
-        OnOk result (out.new ≡ record out.old {
-          counts = counted_all out.old.counts (page_rows lab.now cover.now
-              (version_after cover.now before (leaf_by (tables_of (D.state conn.old)) head)));
-        }) }
+    ensures gives { Gives
+        (λ t. page_rows lab.now cover.now (version_after cover.now before (leaf_by t head)))
+        (λ t. HasPage t (is_some before) head) (D.state conn.old) (D.state conn.new)
+        (W.contents writer.old) (W.contents writer.new) out.old out.new result }
     ensures version { IsReady (D.state conn.old) → HasCleanDisk (D.state conn.new) →
         IfOk result (λ version. version
         ≡ version_after cover.now before (leaf_by (tables_of (D.state conn.old)) head)) }
-    ensures fault { IfErr result (CopyFaultFits ⊥ (Unit {0}) (Unit {0})) }
-    ensures cause { CopyHasItsCause (λ t. HasPage t (is_some before) head)
-        (D.state conn.old) (D.state conn.new) result }
 {
     match leaf_at(alloc, conn, head) {
         Ok(leaf) => give_leaf(alloc, lab, cover, before, leaf, out, writer),

@@ -1,22 +1,20 @@
 //! The copying of a record's rows from the tables: each version is read, its rows are written, and
 //! it is dropped.
 
-ghost use Rattle.std.specs.Prelude.{◌≡◌, ◌≤◌, None, Some, [], ◌∷◌, ◌++◌, false, map, option_map, IfErr, IfOk, IfSome, IsTrue, OnOk, option_to_list};
-ghost use Rattle.sqlite.specs.State.{HasCleanDisk, IsUnchanged};
-ghost use Rattle.lab_copy_rows.specs.Outs.{Sends, counted_all};
+ghost use Rattle.std.specs.Prelude.{◌≡◌, ◌≤◌, None, Some, [], ◌∷◌, false, map, option_map, IfOk, IfSome, IsTrue, option_to_list};
+ghost use Rattle.sqlite.specs.State.{HasCleanDisk};
 ghost use Rattle.lab_forms_texts.specs.Ordinals.{last_ordinal};
 ghost use Rattle.lab_records_kept.specs.Digests.{digest_of};
 ghost use Rattle.lab_store_read.specs.Causes.{HasFirst};
-ghost use Rattle.lab_store_read_copies.specs.Causes.{CopyHasItsCause, HasNumbered, HasPages, HasRange, HasVersions};
-ghost use Rattle.lab_store_read_copies.specs.Pages.{IsFormed, cover_rows, lab_at, pages_rows};
+ghost use Rattle.lab_store_read_copies.specs.Causes.{HasNumbered, HasPages, HasRange, HasVersions};
+ghost use Rattle.lab_store_read_copies.specs.Gives.{Gives, GivesRows};
+ghost use Rattle.lab_store_read_copies.specs.Pages.{IsFormed, lab_at, pages_rows, parts_rows, versions_rows};
 ghost use Rattle.lab_store_read_records.specs.Leaves.{leaf_by};
 ghost use Rattle.lab_store_read_records.specs.Shown.{records_shown};
 ghost use Rattle.lab_store_read_forms.specs.Readable.{HasParts, HasWholeRecord};
 ghost use Rattle.lab_store_read_forms.specs.Wholes.{record_by};
-ghost use Rattle.lab_copy_rows.specs.Csv.{csv_text};
-ghost use Rattle.lab_store_tables.specs.Meaning.{chained, leaves_of, meaning};
-ghost use Rattle.lab_store_tables.specs.Ready.{IsReady, PassesBy, tables_of};
-ghost use Rattle.lab_records_copy_out.specs.Faults.{CopyFaultFits};
+ghost use Rattle.lab_store_tables.specs.Meaning.{chained, meaning};
+ghost use Rattle.lab_store_tables.specs.Ready.{IsReady, tables_of};
 ghost use Rattle.lab_records_copy_out.specs.Walks.{record_at, record_rows, walked_to};
 
 use crate::covers::{Cover, cover_behind, head_in};
@@ -59,23 +57,11 @@ fn give_pages<D: Readable, W: Write>(
     out: &mut CopyOut,
     writer: &mut W,
 ) -> Result<(), CopyOutFault>
-    ensures passes { PassesBy (D.state conn.old) (D.state conn.new) }
-    ensures same { HasCleanDisk (D.state conn.new) → IsTrue (D.state conn.old).is_open →
-        OnOk result (IsUnchanged (D.state conn.old) (D.state conn.new)) }
-    ensures text { IsReady (D.state conn.old) → HasCleanDisk (D.state conn.new) →
-        IsTrue (D.state conn.old).is_open →
-        Sends (W.contents writer.old) (W.contents writer.new) (csv_text (pages_rows lab.now
-        cover.now (chained lab.now cover.now None
-        (map (leaf_by (tables_of (D.state conn.old))) heads.items)))) result }
-    ensures counts { IsReady (D.state conn.old) → HasCleanDisk (D.state conn.new) →
-        IsTrue (D.state conn.old).is_open → OnOk result (out.new ≡ record out.old {
-          counts = counted_all out.old.counts (pages_rows lab.now cover.now
-              (chained lab.now cover.now None
-              (map (leaf_by (tables_of (D.state conn.old))) heads.items)));
-        }) }
-    ensures fault { IfErr result (CopyFaultFits ⊥ (Unit {0}) (Unit {0})) }
-    ensures cause { CopyHasItsCause (λ t. HasPages t false heads.items)
-        (D.state conn.old) (D.state conn.new) result }
+    ensures { GivesRows (IsTrue (D.state conn.old).is_open) (λ t. Unit {0})
+        (λ t. pages_rows lab.now cover.now
+        (chained lab.now cover.now None (map (leaf_by t) heads.items)))
+        (λ t. HasPages t false heads.items) (D.state conn.old) (D.state conn.new)
+        (W.contents writer.old) (W.contents writer.new) out.old out.new result }
 {
     let mut before = None;
     for head in heads {
@@ -96,22 +82,9 @@ fn give_versions<D: Readable, W: Write>(
     out: &mut CopyOut,
     writer: &mut W,
 ) -> Result<(), CopyOutFault>
-    ensures passes { PassesBy (D.state conn.old) (D.state conn.new) }
-    ensures same { HasCleanDisk (D.state conn.new) →
-        OnOk result (IsUnchanged (D.state conn.old) (D.state conn.new)) }
-    ensures text { IsReady (D.state conn.old) → HasCleanDisk (D.state conn.new) →
-        Sends (W.contents writer.old) (W.contents writer.new) (csv_text (pages_rows lab.now
-        cover.now (chained lab.now cover.now None
-        (leaves_of (tables_of (D.state conn.old)) kept)))) result }
-    ensures counts { IsReady (D.state conn.old) → HasCleanDisk (D.state conn.new) →
-        OnOk result (out.new ≡ record out.old {
-          counts = counted_all out.old.counts (pages_rows lab.now cover.now
-              (chained lab.now cover.now None
-              (leaves_of (tables_of (D.state conn.old)) kept)));
-        }) }
-    ensures fault { IfErr result (CopyFaultFits ⊥ (Unit {0}) (Unit {0})) }
-    ensures cause { CopyHasItsCause (λ t. HasVersions t kept)
-        (D.state conn.old) (D.state conn.new) result }
+    ensures { Gives (λ t. versions_rows t lab.now cover.now kept)
+        (λ t. HasVersions t kept) (D.state conn.old) (D.state conn.new)
+        (W.contents writer.old) (W.contents writer.new) out.old out.new result }
 {
     match versions_at(alloc, conn, kept) {
         Ok(heads) => give_pages(alloc, conn, lab, cover, heads, out, writer),
@@ -129,24 +102,9 @@ fn give_covered<D: Readable, W: Write>(
     out: &mut CopyOut,
     writer: &mut W,
 ) -> Result<(), CopyOutFault>
-    ensures passes { PassesBy (D.state conn.old) (D.state conn.new) }
-    ensures same { HasCleanDisk (D.state conn.new) →
-        OnOk result (IsUnchanged (D.state conn.old) (D.state conn.new)) }
-    ensures text { IsReady (D.state conn.old) → HasCleanDisk (D.state conn.new) →
-        Sends (W.contents writer.old) (W.contents writer.new)
-        (csv_text (cover_rows lab.now cover.now ++ pages_rows lab.now cover.now
-        (chained lab.now cover.now None
-        (leaves_of (tables_of (D.state conn.old)) kept)))) result }
-    ensures counts { IsReady (D.state conn.old) → HasCleanDisk (D.state conn.new) →
-        OnOk result (out.new ≡ record out.old {
-          counts = counted_all out.old.counts
-              (cover_rows lab.now cover.now ++ pages_rows lab.now cover.now
-              (chained lab.now cover.now None
-              (leaves_of (tables_of (D.state conn.old)) kept)));
-        }) }
-    ensures fault { IfErr result (CopyFaultFits ⊥ (Unit {0}) (Unit {0})) }
-    ensures cause { CopyHasItsCause (λ t. HasVersions t kept)
-        (D.state conn.old) (D.state conn.new) result }
+    ensures { Gives (λ t. parts_rows t lab.now cover.now kept)
+        (λ t. HasVersions t kept) (D.state conn.old) (D.state conn.new)
+        (W.contents writer.old) (W.contents writer.new) out.old out.new result }
 {
     give_cover(alloc, lab, cover, out, writer)?;
     give_versions(alloc, conn, lab, cover, kept, out, writer)
@@ -163,25 +121,10 @@ fn give_filed<D: Readable, W: Write>(
     out: &mut CopyOut,
     writer: &mut W,
 ) -> Result<Option<Cover>, CopyOutFault>
-    ensures passes { PassesBy (D.state conn.old) (D.state conn.new) }
-    ensures same { HasCleanDisk (D.state conn.new) →
-        OnOk result (IsUnchanged (D.state conn.old) (D.state conn.new)) }
-    ensures text { IsReady (D.state conn.old) → HasCleanDisk (D.state conn.new) →
-        Sends (W.contents writer.old) (W.contents writer.new)
-        (csv_text (cover_rows lab.now cover.kept ++ pages_rows lab.now cover.kept
-        (chained lab.now cover.kept None
-        (leaves_of (tables_of (D.state conn.old)) id)))) result }
-    ensures counts { IsReady (D.state conn.old) → HasCleanDisk (D.state conn.new) →
-        OnOk result (out.new ≡ record out.old {
-          counts = counted_all out.old.counts
-              (cover_rows lab.now cover.kept ++ pages_rows lab.now cover.kept
-              (chained lab.now cover.kept None
-              (leaves_of (tables_of (D.state conn.old)) id)));
-        }) }
+    ensures gives { Gives (λ t. parts_rows t lab.now cover.kept id)
+        (λ t. HasVersions t id) (D.state conn.old) (D.state conn.new)
+        (W.contents writer.old) (W.contents writer.new) out.old out.new result }
     ensures cover { IfOk result (λ behind. behind ≡ Some cover) }
-    ensures fault { IfErr result (CopyFaultFits ⊥ (Unit {0}) (Unit {0})) }
-    ensures cause { CopyHasItsCause (λ t. HasVersions t id)
-        (D.state conn.old) (D.state conn.new) result }
 {
     match give_covered(alloc, conn, lab, &cover.kept, id, out, writer) {
         Ok(()) => Ok(Some(cover)),
@@ -200,25 +143,13 @@ fn give_headed<D: Readable, W: Write>(
     out: &mut CopyOut,
     writer: &mut W,
 ) -> Result<Option<Cover>, CopyOutFault>
-    ensures passes { PassesBy (D.state conn.old) (D.state conn.new) }
-    ensures same { HasCleanDisk (D.state conn.new) →
-        OnOk result (IsUnchanged (D.state conn.old) (D.state conn.new)) }
-    ensures text { IsReady (D.state conn.old) → HasCleanDisk (D.state conn.new) →
-        IfSome before (IsFormed (tables_of (D.state conn.old))) →
-        Sends (W.contents writer.old) (W.contents writer.new) (csv_text (record_rows lab.now
-        (record_by (tables_of (D.state conn.old)) lab.now head ∷ []))) result }
-    ensures counts { IsReady (D.state conn.old) → HasCleanDisk (D.state conn.new) →
-        IfSome before (IsFormed (tables_of (D.state conn.old))) →
-        OnOk result (out.new ≡ record out.old {
-          counts = counted_all out.old.counts (record_rows lab.now
-              (record_by (tables_of (D.state conn.old)) lab.now head ∷ []));
-        }) }
+    ensures gives { GivesRows (Unit {0}) (λ t. IfSome before (IsFormed t))
+        (λ t. record_rows lab.now (record_by t lab.now head ∷ []))
+        (λ t. HasParts t head) (D.state conn.old) (D.state conn.new)
+        (W.contents writer.old) (W.contents writer.new) out.old out.new result }
     ensures formed { IsReady (D.state conn.old) → HasCleanDisk (D.state conn.new) →
         IfSome before (IsFormed (tables_of (D.state conn.old))) →
         IfOk result (λ behind. IfSome behind (IsFormed (tables_of (D.state conn.old)))) }
-    ensures fault { IfErr result (CopyFaultFits ⊥ (Unit {0}) (Unit {0})) }
-    ensures cause { CopyHasItsCause (λ t. HasParts t head)
-        (D.state conn.old) (D.state conn.new) result }
 {
     let id = head.id;
     match cover_behind(alloc, conn, before, head) {
@@ -239,29 +170,15 @@ fn give_record_at<D: Readable, W: Write>(
     out: &mut CopyOut,
     writer: &mut W,
 ) -> Result<Option<Cover>, CopyOutFault>
-    ensures passes { PassesBy (D.state conn.old) (D.state conn.new) }
-    ensures same { HasCleanDisk (D.state conn.new) →
-        OnOk result (IsUnchanged (D.state conn.old) (D.state conn.new)) }
-    ensures text { IsReady (D.state conn.old) → HasCleanDisk (D.state conn.new) →
-        Some found.now ≡ lab_at (tables_of (D.state conn.old)) lab.now →
-        IfSome before (IsFormed (tables_of (D.state conn.old))) →
-        Sends (W.contents writer.old) (W.contents writer.new) (csv_text (record_rows lab.now
-        (option_to_list (record_at number (meaning (tables_of (D.state conn.old)) lab.now)))))
-        result }
-    ensures counts { IsReady (D.state conn.old) → HasCleanDisk (D.state conn.new) →
-        Some found.now ≡ lab_at (tables_of (D.state conn.old)) lab.now →
-        IfSome before (IsFormed (tables_of (D.state conn.old))) →
-        OnOk result (out.new ≡ record out.old {
-          counts = counted_all out.old.counts (record_rows lab.now (option_to_list
-              (record_at number (meaning (tables_of (D.state conn.old)) lab.now))));
-        }) }
+    ensures gives { GivesRows (Unit {0})
+        (λ t. (Some found.now ≡ lab_at t lab.now) × IfSome before (IsFormed t))
+        (λ t. record_rows lab.now (option_to_list (record_at number (meaning t lab.now))))
+        (λ t. HasFirst (HasWholeRecord t) (records_shown t found.now.id number))
+        (D.state conn.old) (D.state conn.new)
+        (W.contents writer.old) (W.contents writer.new) out.old out.new result }
     ensures formed { IsReady (D.state conn.old) → HasCleanDisk (D.state conn.new) →
         IfSome before (IsFormed (tables_of (D.state conn.old))) →
         IfOk result (λ behind. IfSome behind (IsFormed (tables_of (D.state conn.old)))) }
-    ensures fault { IfErr result (CopyFaultFits ⊥ (Unit {0}) (Unit {0})) }
-    ensures cause { CopyHasItsCause
-        (λ t. HasFirst (HasWholeRecord t) (records_shown t found.now.id number))
-        (D.state conn.old) (D.state conn.new) result }
 {
     match head_in(alloc, conn, found, number) {
         Ok(Some(head)) => give_headed(alloc, conn, lab, before, head, out, writer),
@@ -295,24 +212,11 @@ fn give_all<D: Readable, W: Write, P: Progress>(
     progress: &mut P,
 ) -> Result<(), CopyOutFault>
     requires { last ≤ last_ordinal }
-    ensures passes { PassesBy (D.state conn.old) (D.state conn.new) }
-    ensures same { HasCleanDisk (D.state conn.new) → IsTrue (D.state conn.old).is_open →
-        OnOk result (IsUnchanged (D.state conn.old) (D.state conn.new)) }
-    ensures text { IsReady (D.state conn.old) → HasCleanDisk (D.state conn.new) →
-        IsTrue (D.state conn.old).is_open →
-        Some found ≡ lab_at (tables_of (D.state conn.old)) lab.now →
-        Sends (W.contents writer.old) (W.contents writer.new) (csv_text (record_rows lab.now
-        (walked_to (meaning (tables_of (D.state conn.old)) lab.now) from last))) result }
-    ensures counts { IsReady (D.state conn.old) → HasCleanDisk (D.state conn.new) →
-        IsTrue (D.state conn.old).is_open →
-        Some found ≡ lab_at (tables_of (D.state conn.old)) lab.now →
-        OnOk result (out.new ≡ record out.old {
-          counts = counted_all out.old.counts (record_rows lab.now
-              (walked_to (meaning (tables_of (D.state conn.old)) lab.now) from last));
-        }) }
-    ensures fault { IfErr result (CopyFaultFits ⊥ (Unit {0}) (Unit {0})) }
-    ensures cause { CopyHasItsCause (λ t. HasNumbered t found.id from last)
-        (D.state conn.old) (D.state conn.new) result }
+    ensures { GivesRows (IsTrue (D.state conn.old).is_open)
+        (λ t. Some found ≡ lab_at t lab.now)
+        (λ t. record_rows lab.now (walked_to (meaning t lab.now) from last))
+        (λ t. HasNumbered t found.id from last) (D.state conn.old) (D.state conn.new)
+        (W.contents writer.old) (W.contents writer.new) out.old out.new result }
 {
     let first = from.get();
     let end = last + 1;
@@ -353,20 +257,9 @@ pub fn give_records_at<D: Readable, W: Write, P: Progress>(
     progress: &mut P,
 ) -> Result<(), CopyOutFault>
     requires { last ≤ last_ordinal }
-    ensures passes { PassesBy (D.state conn.old) (D.state conn.new) }
-    ensures same { HasCleanDisk (D.state conn.new) →
-        OnOk result (IsUnchanged (D.state conn.old) (D.state conn.new)) }
-    ensures text { IsReady (D.state conn.old) → HasCleanDisk (D.state conn.new) →
-        Sends (W.contents writer.old) (W.contents writer.new) (csv_text (record_rows lab.now
-        (walked_to (meaning (tables_of (D.state conn.old)) lab.now) from last))) result }
-    ensures counts { IsReady (D.state conn.old) → HasCleanDisk (D.state conn.new) →
-        OnOk result (out.new ≡ record out.old {
-          counts = counted_all out.old.counts (record_rows lab.now
-              (walked_to (meaning (tables_of (D.state conn.old)) lab.now) from last));
-        }) }
-    ensures fault { IfErr result (CopyFaultFits ⊥ (Unit {0}) (Unit {0})) }
-    ensures cause { CopyHasItsCause (λ t. HasRange t lab.now from last)
-        (D.state conn.old) (D.state conn.new) result }
+    ensures { Gives (λ t. record_rows lab.now (walked_to (meaning t lab.now) from last))
+        (λ t. HasRange t lab.now from last) (D.state conn.old) (D.state conn.new)
+        (W.contents writer.old) (W.contents writer.new) out.old out.new result }
 {
     match lab_at(alloc, conn, lab) {
         Ok(Some(found)) => give_all(alloc, conn, lab, found, from, last, out, writer, progress),

@@ -1,7 +1,6 @@
 -- Each number's record goes out behind those before it; a fault cuts it within one.
-use Rattle.std.proofs.Common.{◌≡◌, ◌-◌, ◌≤◌, ℕ, Some, arith, ap, refl, sym, subst, ◌∙◌, option_to_list}
+use Rattle.std.proofs.Common.{◌≡◌, ◌-◌, ◌≤◌, ℕ, Some, arith, ap, refl, sym, subst, ◌∙◌, Option, option_to_list}
 use Rattle.std.specs.Io.KnownBytes.{Appends}
-use Rattle.std.proofs.lemmas.Result.{err_from_is_err_and}
 use Rattle.sqlite.specs.Effect.{Database}
 use Rattle.lab_copy_rows.specs.Outs.{AppendsFront}
 use Rattle.lab_store_tables.specs.Rows.{Tables, tables_in}
@@ -17,7 +16,9 @@ use Rattle.lab_store_read_records.specs.Shown.{records_shown}
 use Rattle.lab_store_read_forms.specs.Readable.{HasWholeRecord}
 use Rattle.lab_store_read_copies.specs.Causes.{HasNumbered}
 use Rattle.lab_store_read_copies.specs.Pages.{lab_at}
-use Rattle.lab_store_read_copies.proofs.CauseLemmas.{none_blamed, passed_on, then_told}
+use Rattle.lab_store_read_copies.specs.declared.covers.Cover.{Cover}
+use Rattle.lab_store_read_copies.proofs.CauseLemmas.{none_blamed, then_told}
+use Rattle.lab_store_read_copies.proofs.GivesLemmas.{fault_given}
 use Rattle.lab_store_read_copies.proofs.FoundLemmas.{formed_as}
 use Rattle.lab_store_read_copies.proofs.pages.give_all.Goals as goal
 
@@ -59,18 +60,19 @@ loop-number-preserved g c =
     omega (arith, c.get-first.ensures.value, at.auto.number) in
     record {
       few = omega (arith, from, c.loop-number-test.true);
-      passes = passes_on old mid new so.passes gave.passes so.same;
-      limit = gave.cause.limit ∙ so.limit;
+      passes = passes_on old mid new so.passes gave.gives.passes so.same;
+      limit = gave.gives.cause.limit ∙ so.limit;
       same = λ clean opened.
-          unchanged_then old mid new (so.same (gave.passes.clean clean) opened) (gave.same clean);
+          unchanged_then old mid new (so.same (gave.gives.passes.clean clean) opened)
+          (gave.gives.same clean tt);
       formed = λ ready clean opened.
-          let was = gave.passes.clean clean in
+          let was = gave.gives.passes.clean clean in
           let tables = ap (λ (db : Database). tables_in db.trees) (so.same was opened).0.now_is in
           formed_as _ (tables_of mid) (tables_of old) (sym tables)
           (gave.formed (so.passes.ready ready) clean
           (formed_as at.before (tables_of old) (tables_of mid) tables (so.formed ready was opened)));
       text = λ ready clean opened there.
-          let was = gave.passes.clean clean in
+          let was = gave.gives.passes.clean clean in
           let tables = ap (λ (db : Database). tables_in db.trees) (so.same was opened).0.now_is in
           walk_more lab (meaning (tables_of old) lab) (meaning (tables_of mid) lab) c.args.from
           at.number _ _ _ (ap (λ (v : Tables). meaning v lab) tables) from
@@ -79,11 +81,12 @@ loop-number-preserved g c =
           (g.W.Write.contents c.give_record_at.new.writer)
           (records_text lab (option_to_list (record_at n (meaning (tables_of mid) lab)))))
           c.ordinal.ensures
-          (gave.text (so.passes.ready ready) clean
-          (subst (λ (v : Tables). Some c.args.found ≡ lab_at v lab) (sym tables) there)
-          (formed_as at.before (tables_of old) (tables_of mid) tables (so.formed ready was opened))));
+          (gave.gives.text (so.passes.ready ready) clean tt (
+            subst (λ (v : Tables). Some c.args.found ≡ lab_at v lab) (sym tables) there,
+            formed_as at.before (tables_of old) (tables_of mid) tables (so.formed ready was opened),
+          )));
       counts = λ ready clean opened there.
-          let was = gave.passes.clean clean in
+          let was = gave.gives.passes.clean clean in
           let tables = ap (λ (db : Database). tables_in db.trees) (so.same was opened).0.now_is in
           record_given lab (meaning (tables_of old) lab) (meaning (tables_of mid) lab) c.args.from
           at.number _ _ _ (ap (λ (v : Tables). meaning v lab) tables) from
@@ -91,80 +94,70 @@ loop-number-preserved g c =
           (subst (λ (n : ℕ). c.give_record_at.new.out ≡ given_rows at.out
           (record_rows lab (option_to_list (record_at n (meaning (tables_of mid) lab)))))
           c.ordinal.ensures
-          (gave.counts (so.passes.ready ready) clean
-          (subst (λ (v : Tables). Some c.args.found ≡ lab_at v lab) (sym tables) there)
-          (formed_as at.before (tables_of old) (tables_of mid) tables (so.formed ready was opened))));
+          (gave.gives.counts (so.passes.ready ready) clean tt (
+            subst (λ (v : Tables). Some c.args.found ≡ lab_at v lab) (sym tables) there,
+            formed_as at.before (tables_of old) (tables_of mid) tables (so.formed ready was opened),
+          )));
     }
 
-pub returns-in_err-behind-clause-passes : goal.returns-in_err-behind-clause-passes
-returns-in_err-behind-clause-passes g c =
-    let at = c.loop-number in
-    passes_on (g.D.Readable.state c.args.conn.now) (g.D.Readable.state at.conn)
-    (g.D.Readable.state c.give_record_at.new.conn) at.invariant.passes
-    c.give_record_at.ensures.passes at.invariant.same
-
-pub returns-in_err-behind-clause-text : goal.returns-in_err-behind-clause-text
-returns-in_err-behind-clause-text g c ready clean opened there =
-    let failed = err_from_is_err_and c.from_residual.result c.from_residual.ensures.1 in
+pub returns-in_err-behind : goal.returns-in_err-behind
+returns-in_err-behind g c =
     let at = c.loop-number in
     let so = at.invariant in
     let old = g.D.Readable.state c.args.conn.now in
     let mid = g.D.Readable.state at.conn in
+    let new = g.D.Readable.state c.give_record_at.new.conn in
     let lab = c.args.lab.now in
-    let was = c.give_record_at.ensures.passes.clean clean in
-    let tables = ap (λ (db : Database). tables_in db.trees) (so.same was opened).0.now_is in
+    let gave = c.in_err-behind.ensures.gives in
     let from : c.args.from ≤ at.number =
     omega (arith, c.get-first.ensures.value, at.auto.number) in
-    rw failed.1 (walk_cut lab (meaning (tables_of old) lab) (meaning (tables_of mid) lab) c.args.from
-    at.number c.args.last _ _ _ (ap (λ (v : Tables). meaning v lab) tables) from
-    (omega (arith, c.loop-number-test.true)) (so.text ready was opened there)
-    (subst (λ (n : ℕ). AppendsFront (g.W.Write.contents at.writer)
-    (g.W.Write.contents c.give_record_at.new.writer)
-    (records_text lab (option_to_list (record_at n (meaning (tables_of mid) lab)))))
-    c.ordinal.ensures
-    (c.in_err-behind.ensures.text (so.passes.ready ready) clean
-    (subst (λ (v : Tables). Some c.args.found ≡ lab_at v lab) (sym tables) there)
-    (formed_as at.before (tables_of old) (tables_of mid) tables (so.formed ready was opened)))))
+    fault_given {A = Option Cover} {Given = λ t. Some c.args.found ≡ lab_at t lab}
+    c.from_residual.result c.from_residual.ensures.1 (record {
+      passes = passes_on old mid new so.passes gave.passes so.same;
+      same = λ clean opened. tt;
+      text = λ ready clean opened there.
+          let was = gave.passes.clean clean in
+          let tables = ap (λ (db : Database). tables_in db.trees) (so.same was opened).0.now_is in
+          walk_cut lab (meaning (tables_of old) lab) (meaning (tables_of mid) lab) c.args.from
+          at.number c.args.last _ _ _ (ap (λ (v : Tables). meaning v lab) tables) from
+          (omega (arith, c.loop-number-test.true)) (so.text ready was opened there)
+          (subst (λ (n : ℕ). AppendsFront (g.W.Write.contents at.writer)
+          (g.W.Write.contents c.give_record_at.new.writer)
+          (records_text lab (option_to_list (record_at n (meaning (tables_of mid) lab)))))
+          c.ordinal.ensures
+          (gave.text (so.passes.ready ready) clean tt (
+            subst (λ (v : Tables). Some c.args.found ≡ lab_at v lab) (sym tables) there,
+            formed_as at.before (tables_of old) (tables_of mid) tables (so.formed ready was opened),
+          )));
+      counts = λ ready clean opened there. tt;
+      fault = gave.fault;
+      cause = then_told {Then = λ t. HasNumbered t c.args.found.id c.args.from c.args.last} old mid
+          new so.passes so.same so.limit gave.passes gave.cause
+          (λ ready clean has. subst (λ (n : ℕ). HasFirst (HasWholeRecord (tables_of old))
+          (records_shown (tables_of old) c.args.found.id n)) (sym c.ordinal.ensures)
+          (has at.number from (omega (arith, c.loop-number-test.true))));
+    })
 
-pub returns-clause-text : goal.returns-clause-text
-returns-clause-text g c ready clean opened there =
+pub returns : goal.returns
+returns g c =
     let at = c.loop-number in
     let so = at.invariant in
     let old = g.D.Readable.state c.args.conn.now in
     let lab = c.args.lab.now in
     let all : at.number - c.args.from ≡ numbers_between c.args.from c.args.last =
     omega (arith, so.few, c.loop-number-test.false) in
-    subst (λ count. Appends (g.W.Write.contents c.args.writer.now)
-    (g.W.Write.contents at.writer)
-    (records_text lab (walked (meaning (tables_of old) lab) c.args.from count)))
-    all (so.text ready clean opened there)
-
-pub returns-clause-counts : goal.returns-clause-counts
-returns-clause-counts g c ready clean opened there =
-    let at = c.loop-number in
-    let so = at.invariant in
-    let old = g.D.Readable.state c.args.conn.now in
-    let lab = c.args.lab.now in
-    let all : at.number - c.args.from ≡ numbers_between c.args.from c.args.last =
-    omega (arith, so.few, c.loop-number-test.false) in
-    subst (λ count. at.out ≡ given_rows c.args.out.now (record_rows lab
-    (walked (meaning (tables_of old) lab) c.args.from count)))
-    all (so.counts ready clean opened there)
-
-pub returns-in_err-behind-clause-cause : goal.returns-in_err-behind-clause-cause
-returns-in_err-behind-clause-cause g c =
-    let at = c.loop-number in
-    let so = at.invariant in
-    let old = g.D.Readable.state c.args.conn.now in
-    let from : c.args.from ≤ at.number =
-    omega (arith, c.get-first.ensures.value, at.auto.number) in
-    passed_on (then_told {Then = λ t. HasNumbered t c.args.found.id c.args.from c.args.last} old (g.D.Readable.state at.conn)
-    (g.D.Readable.state c.give_record_at.new.conn) so.passes so.same so.limit
-    c.give_record_at.ensures.passes c.in_err-behind.ensures.cause
-    (λ ready clean has. subst (λ (n : ℕ). HasFirst (HasWholeRecord (tables_of old))
-    (records_shown (tables_of old) c.args.found.id n)) (sym c.ordinal.ensures)
-    (has at.number from (omega (arith, c.loop-number-test.true)))))
-    c.from_residual.result c.from_residual.ensures.1
-
-pub returns-clause-cause : goal.returns-clause-cause
-returns-clause-cause g c = none_blamed c.loop-number.invariant.limit
+    record {
+      passes = so.passes;
+      same = so.same;
+      text = λ ready clean opened there.
+          subst (λ count. Appends (g.W.Write.contents c.args.writer.now)
+          (g.W.Write.contents at.writer)
+          (records_text lab (walked (meaning (tables_of old) lab) c.args.from count)))
+          all (so.text ready clean opened there);
+      counts = λ ready clean opened there.
+          subst (λ count. at.out ≡ given_rows c.args.out.now (record_rows lab
+          (walked (meaning (tables_of old) lab) c.args.from count)))
+          all (so.counts ready clean opened there);
+      fault = tt;
+      cause = none_blamed so.limit;
+    }

@@ -2,10 +2,10 @@
 use Rattle.std.proofs.Common.{◌≡◌, ℕ, List, [], ◌∷◌, false, map, length, Option, refl, sym, ap, subst, ◌∙◌, arith, rules}
 use Rattle.std.specs.Prelude.{is_some, option_map}
 use Rattle.std.specs.Vec.Iter.{into_iter_items}
-use Rattle.std.proofs.lemmas.Result.{err_from_is_err_and}
 use Rattle.sqlite.specs.Effect.{Database}
 use Rattle.lab_copy_rows.specs.declared.outs.CopyOut.{CopyOut}
 use Rattle.lab_records_kept.specs.declared.records.Record.{Record}
+use Rattle.lab_records_kept.specs.declared.records.Version.{Version}
 use Rattle.lab_records_kept.specs.Digests.{digest_of}
 use Rattle.lab_records_copy_out.specs.declared.faults.CopyOutFault.TheVariants.{Memory}
 use Rattle.lab_store_tables.specs.Meaning.{Leaf}
@@ -16,7 +16,8 @@ use Rattle.lab_store_read.proofs.Loops.{none_left}
 use Rattle.lab_store_read_records.specs.declared.heads.VersionHead.{VersionHead}
 use Rattle.lab_store_read_records.specs.Leaves.{leaf_by}
 use Rattle.lab_store_read_copies.specs.Causes.{HasPages}
-use Rattle.lab_store_read_copies.proofs.CauseLemmas.{never_blamed, none_blamed, page_next, pages_next, passed_on, then_told}
+use Rattle.lab_store_read_copies.proofs.CauseLemmas.{none_blamed, page_next, pages_next, then_told}
+use Rattle.lab_store_read_copies.proofs.GivesLemmas.{fault_given, never_blamed}
 use Rattle.lab_store_read_copies.proofs.GoneLemmas.{HasGone, none_gone, page_more, page_cut, gone_front, all_gone, all_given}
 use Rattle.lab_store_read_copies.proofs.pages.give_pages.Goals as goal
 
@@ -61,20 +62,20 @@ loop-head-preserved g c =
     ≡ c.in-Some.head ∷ into_iter_items c.next.new.self = c.in-Some.ensures.steps.0 in
     record {
       passes = passes_on old (g.D.Readable.state at.conn) (g.D.Readable.state c.give_page.new.conn)
-          so.passes page.passes so.same;
+          so.passes page.gives.passes so.same;
       same = λ clean opened.
           unchanged_then old (g.D.Readable.state at.conn) (g.D.Readable.state c.give_page.new.conn)
-          (so.same (page.passes.clean clean) opened) (page.same clean);
+          (so.same (page.gives.passes.clean clean) opened) (page.gives.same clean tt);
       gone = λ ready clean opened.
-          let was = page.passes.clean clean in
+          let was = page.gives.passes.clean clean in
           let begun = so.passes.ready ready in
           page_more lab cover c.in_ok-digest.digest c.in-Some.head _ _
           c.args.heads.items (tables_of (g.D.Readable.state at.conn)) (tables_of old)
           (ap (λ (db : Database). tables_in db.trees) (so.same was opened).0.now_is) steps _ _ _ _
           _ _ (gone_behind lab cover _ _ _ _ _ _ _ _ c.in_ok-digest.ensures (so.gone ready was opened))
-          (digest_of lab cover c.in_ok-version.version) (page.text begun clean)
-          (page.counts begun clean) (ap (digest_of lab cover) (page.version begun clean));
-      limit = page.cause.limit ∙ so.limit;
+          (digest_of lab cover c.in_ok-version.version) (page.gives.text begun clean tt tt)
+          (page.gives.counts begun clean tt tt) (ap (digest_of lab cover) (page.version begun clean));
+      limit = page.gives.cause.limit ∙ so.limit;
       readable = λ t has.
           pages_next t (is_some (option_map (digest_of lab cover) at.before)) _
           (into_iter_items c.next.new.self) c.in-Some.head steps (so.readable t has);
@@ -86,74 +87,68 @@ loop-head-preserved g c =
     }
 
 -- there was no memory for the digest of the version before
-
-pub returns-in_err-digest-clause-passes : goal.returns-in_err-digest-clause-passes
-returns-in_err-digest-clause-passes g c = c.loop-head.invariant.passes
-
-pub returns-in_err-digest-clause-text : goal.returns-in_err-digest-clause-text
-returns-in_err-digest-clause-text g c ready clean opened =
-    let failed = err_from_is_err_and c.from_residual.result c.from_residual.ensures.1 in
-    rw failed.1 (gone_front c.args.lab.now c.args.cover.now _ _ _ _ _ _ _
-    (c.loop-head.invariant.gone ready clean opened))
-
-pub returns-in_err-digest-clause-cause : goal.returns-in_err-digest-clause-cause
-returns-in_err-digest-clause-cause g c =
-    never_blamed c.loop-head.invariant.limit Memory tt c.from_residual.result
-    c.from_residual.ensures.1
+pub returns-in_err-digest : goal.returns-in_err-digest
+returns-in_err-digest g c =
+    let so = c.loop-head.invariant in
+    fault_given {A = Version} {Given = λ t. Unit {0}} {fault = Memory} c.from_residual.result
+    c.from_residual.ensures.1 (record {
+      passes = so.passes;
+      same = λ clean opened. tt;
+      text = λ ready clean opened given.
+          gone_front c.args.lab.now c.args.cover.now _ _ _ _ _ _ _ (so.gone ready clean opened);
+      counts = λ ready clean opened given. tt;
+      fault = tt;
+      cause = never_blamed so.limit Memory tt;
+    })
 
 -- the version didn't go out whole
-
-pub returns-in_err-version-clause-passes : goal.returns-in_err-version-clause-passes
-returns-in_err-version-clause-passes g c =
-    let at = c.loop-head in
-    passes_on (g.D.Readable.state c.args.conn.now) (g.D.Readable.state at.conn)
-    (g.D.Readable.state c.give_page.new.conn) at.invariant.passes c.give_page.ensures.passes
-    at.invariant.same
-
-pub returns-in_err-version-clause-text : goal.returns-in_err-version-clause-text
-returns-in_err-version-clause-text g c ready clean opened =
-    let failed = err_from_is_err_and c.from_residual-in_err-version.result
-    c.from_residual-in_err-version.ensures.1 in
+pub returns-in_err-version : goal.returns-in_err-version
+returns-in_err-version g c =
     let lab = c.args.lab.now in
     let cover = c.args.cover.now in
     let old = g.D.Readable.state c.args.conn.now in
     let at = c.loop-head in
     let so = at.invariant in
-    let was = c.give_page.ensures.passes.clean clean in
-    rw failed.1 (page_cut lab cover c.in_ok-digest.digest c.in-Some.head _ _
-    c.args.heads.items (tables_of (g.D.Readable.state at.conn)) (tables_of old)
-    (ap (λ (db : Database). tables_in db.trees) (so.same was opened).0.now_is)
-    c.in-Some.ensures.steps.0 _ _ _ _ _ c.args.out.now
-    (gone_behind lab cover _ _ _ _ _ _ _ _ c.in_ok-digest.ensures (so.gone ready was opened))
-    (c.in_err-version.ensures.text (so.passes.ready ready) clean))
+    let mid = g.D.Readable.state at.conn in
+    let new = g.D.Readable.state c.give_page.new.conn in
+    let gave = c.in_err-version.ensures.gives in
+    fault_given {A = Version} {Given = λ t. Unit {0}} c.from_residual-in_err-version.result
+    c.from_residual-in_err-version.ensures.1 (record {
+      passes = passes_on old mid new so.passes gave.passes so.same;
+      same = λ clean opened. tt;
+      text = λ ready clean opened given.
+          let was = gave.passes.clean clean in
+          page_cut lab cover c.in_ok-digest.digest c.in-Some.head _ _ c.args.heads.items
+          (tables_of mid) (tables_of old)
+          (ap (λ (db : Database). tables_in db.trees) (so.same was opened).0.now_is)
+          c.in-Some.ensures.steps.0 _ _ _ _ _ c.args.out.now
+          (gone_behind lab cover _ _ _ _ _ _ _ _ c.in_ok-digest.ensures (so.gone ready was opened))
+          (gave.text (so.passes.ready ready) clean tt tt);
+      counts = λ ready clean opened given. tt;
+      fault = gave.fault;
+      cause = then_told {Then = λ t. HasPages t false c.args.heads.items} old mid new so.passes
+          so.same so.limit gave.passes gave.cause
+          (λ ready clean has. page_next (tables_of old) (is_some c.in_ok-digest.digest) _
+          (into_iter_items c.next.new.self) c.in-Some.head c.in-Some.ensures.steps.0
+          (pages_behind (tables_of old) _ _ _ c.in_ok-digest.ensures
+          (so.readable (tables_of old) has)));
+    })
 
-pub returns-in_err-version-clause-cause : goal.returns-in_err-version-clause-cause
-returns-in_err-version-clause-cause g c =
+pub returns : goal.returns
+returns g c =
     let old = g.D.Readable.state c.args.conn.now in
-    let at = c.loop-head in
-    let so = at.invariant in
-    passed_on (then_told {Then = λ t. HasPages t false c.args.heads.items} old (g.D.Readable.state at.conn) (g.D.Readable.state c.give_page.new.conn)
-    so.passes so.same so.limit c.give_page.ensures.passes c.in_err-version.ensures.cause
-    (λ ready clean has. page_next (tables_of old) (is_some c.in_ok-digest.digest) _
-    (into_iter_items c.next.new.self) c.in-Some.head c.in-Some.ensures.steps.0
-    (pages_behind (tables_of old) _ _ _ c.in_ok-digest.ensures (so.readable (tables_of old) has))))
-    c.from_residual-in_err-version.result c.from_residual-in_err-version.ensures.1
-
-pub returns-clause-text : goal.returns-clause-text
-returns-clause-text g c ready clean opened =
-    let old = g.D.Readable.state c.args.conn.now in
+    let so = c.loop-head.invariant in
     let none : into_iter_items c.loop-head.head-iterator ≡ [] =
-    none_left _ (sym c.loop-head.invariant.counted ∙ c.in-None.ensures.steps.0) in
-    all_gone c.args.lab.now c.args.cover.now _ _ _ _ _ _ _
-    (ap (map (leaf_by (tables_of old))) none) (c.loop-head.invariant.gone ready clean opened)
-
-pub returns-clause-counts : goal.returns-clause-counts
-returns-clause-counts g c ready clean opened =
-    let old = g.D.Readable.state c.args.conn.now in
-    let none : into_iter_items c.loop-head.head-iterator ≡ [] =
-    none_left _ (sym c.loop-head.invariant.counted ∙ c.in-None.ensures.steps.0) in
-    all_given c.args.lab.now c.args.cover.now _ _ _ _ _ _ _
-    (ap (map (leaf_by (tables_of old))) none) (c.loop-head.invariant.gone ready clean opened)
-
-pub returns-clause-cause : goal.returns-clause-cause
-returns-clause-cause g c = none_blamed c.loop-head.invariant.limit
+    none_left _ (sym so.counted ∙ c.in-None.ensures.steps.0) in
+    record {
+      passes = so.passes;
+      same = so.same;
+      text = λ ready clean opened given.
+          all_gone c.args.lab.now c.args.cover.now _ _ _ _ _ _ _
+          (ap (map (leaf_by (tables_of old))) none) (so.gone ready clean opened);
+      counts = λ ready clean opened given.
+          all_given c.args.lab.now c.args.cover.now _ _ _ _ _ _ _
+          (ap (map (leaf_by (tables_of old))) none) (so.gone ready clean opened);
+      fault = tt;
+      cause = none_blamed so.limit;
+    }

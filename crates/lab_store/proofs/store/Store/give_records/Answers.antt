@@ -2,7 +2,12 @@
 use Rattle.lab_store.proofs.store.Store.give_records.Goals as goal
 
 pub returns-clause-text : goal.returns-clause-text
-returns-clause-text g c = rw (← c.self.view_is) (λ clean ready. c.give_records_at.ensures.text ready clean)
+returns-clause-text g c =
+    rw (← c.self.view_is) (λ clean ready. c.give_records_at.ensures.text ready clean tt tt)
+
+pub returns-clause-counts : goal.returns-clause-counts
+returns-clause-counts g c =
+    rw (← c.self.view_is) (λ clean ready. c.give_records_at.ensures.counts ready clean tt tt)
 
 pub returns-clause-cause : goal.returns-clause-cause
 returns-clause-cause g c = rw (← c.self.view_is) c.give_records_at.ensures.cause
