@@ -1,16 +1,16 @@
 //! The desk: one body for every keeper.
 
-ghost use Rattle.std.specs.Prelude.{◌≡◌, ◌≤◌, ℕ, List, length, vec_capacity, [], true, false, IsSome, Ok, IfOk, IfErr, OnOk, OnErr, option_map};
-ghost use Rattle.lab_records_keeper.specs.Worlds.{Passes, Given, Leaves, Lives, Quiet, CommitsAs, IsDurable};
+ghost use Rattle.std.specs.Prelude.{◌≡◌, ◌≤◌, ℕ, List, length, vec_capacity, [], true, false, Ok, IfOk, IfErr, option_map};
+ghost use Rattle.lab_records_keeper.specs.Worlds.{Passes, Given, CommitsAs};
 ghost use Rattle.lab_wire.specs.declared.replies.Answer.TheVariants.{Refused as RefusedAnswer};
 ghost use Rattle.lab_wire.specs.Asked.{asked, RequestFaultFits};
 ghost use Rattle.lab_wire.specs.Replies.{reply_text, memory_text};
 ghost use Rattle.lab_desk_events.specs.Requests.{TellsFault};
 ghost use Rattle.lab_desk_events.specs.Keeping.{Stays};
 ghost use Rattle.lab_desk_events.specs.Leaving.{Settles};
-ghost use Rattle.lab_desk_foundings.specs.Foundings.{founding_in, Founds, Births, TakesFounding, RefusesFounding, shown};
-ghost use Rattle.lab_desk_foundings.specs.Faults.{FoundFaultFits, OnBody, OnKept, OnUncommitted};
+ghost use Rattle.lab_desk_foundings.specs.Foundings.{founding_in, Births, TakesFounding, RefusesFounding, shown};
 ghost use Rattle.lab_desk.specs.Answering.{AnswersRequest};
+ghost use Rattle.lab_desk.specs.Founding.{AnswersFounding};
 ghost use Rattle.lab_desk.specs.Handling.{Handles};
 
 use lab_desk_events::{Event, answer_asked};
@@ -211,43 +211,16 @@ impl<S: Keeper + Drop> Desk<S> {
         }
     }
 
-    /// Founds a laboratory from its body. Every other laboratory keeps what it has recorded.
+    /// Founds a laboratory from its body. Every other laboratory keeps what it has recorded. Each
+    /// fact has a name, as a field of `AnswersFounding` (`specs/Founding.antt`).
     ///
     /// # Errors
     /// The body was refused, no laboratory can be made from it, a laboratory with the code exists,
     /// the store refused, or memory ran out. After each error every laboratory is unchanged.
     pub fn found(&mut self, lab: &LabCode, tick: &Tick, body: &[u8]) -> Result<(), FoundFault>
-        ensures founded { Given (S.world self.old.keeper) (S.world self.new.keeper) (OnOk result
-            (Founds (S.world self.old.keeper) (S.world self.new.keeper)
-            (S.places self.old.keeper self.new.keeper)
-            lab.now tick.now (founding_in body.now))) }
-        ensures err { Given (S.world self.old.keeper) (S.world self.new.keeper)
-            (OnErr result (Leaves (S.world self.old.keeper) (S.world self.new.keeper))) }
-        ensures rows_err { Given (S.world self.old.keeper) (S.world self.new.keeper)
-            (OnErr result ((S.world self.new.keeper).is_live →
-            S.rests self.old.keeper self.new.keeper)) }
-        ensures fault { IfErr result (FoundFaultFits (S.world self.old.keeper).may_refuse
-            (Given (S.world self.old.keeper) (S.world self.new.keeper)
-            (IsSome ((S.world self.old.keeper).meaning lab.now)))
-            lab.now tick.now (founding_in body.now)) }
-        ensures lives { Given (S.world self.old.keeper) (S.world self.new.keeper)
-            (OnKept result (Lives (S.world self.old.keeper) (S.world self.new.keeper))) }
-        ensures untouched { OnBody result (self.new.keeper ≡ self.old.keeper) }
+        ensures founds { AnswersFounding S.Keeper self.old.keeper self.new.keeper lab.now tick.now
+            (founding_in body.now) result }
         ensures reply { self.new.reply ≡ self.old.reply }
-
-        // What a crash may leave:
-        ensures crash { Given (S.world self.old.keeper) (S.world self.new.keeper)
-            (CommitsAs (Births lab.now tick.now (founding_in body.now))
-            (S.world self.old.keeper) (S.world self.new.keeper)) }
-        ensures quiet { Given (S.world self.old.keeper) (S.world self.new.keeper)
-            (OnUncommitted result (Quiet (S.world self.old.keeper) (S.world self.new.keeper))) }
-        ensures durable { Given (S.world self.old.keeper) (S.world self.new.keeper)
-            (OnOk result (IsDurable (S.world self.new.keeper))) }
-
-        // What stays true:
-        ensures stays { Given (S.world self.old.keeper) (S.world self.new.keeper)
-            (Stays (S.world self.old.keeper) (S.world self.new.keeper)) }
-        ensures passes { Passes (S.world self.old.keeper) (S.world self.new.keeper) }
     {
         let newborn = newborn_of(self.alloc, lab, tick, body)?;
         newborn_is_legible(&newborn);

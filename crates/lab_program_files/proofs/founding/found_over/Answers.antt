@@ -28,13 +28,13 @@ returns-in_err-founding_noted-clause-ends g c =
     c.args.desk.now.keeper c.found-founded.new.self.keeper c.in_ok-intake.intake.tick _
     c.in_ok-intake.ensures.tick c.as_slice.ensures.value
     c.in_ok-intake.ensures.body (λ honest reached. record {
-      fits = rw refused at c.found-founded.ensures.fault;
-      same = (rw refused at c.found-founded.ensures.err) honest reached;
-      untouched = rw refused at c.found-founded.ensures.untouched;
-      lives = (rw refused at c.found-founded.ensures.lives) honest reached;
-      crash = c.found-founded.ensures.crash honest reached;
-      quiet = (rw refused at c.found-founded.ensures.quiet) honest reached;
-      stays = c.found-founded.ensures.stays honest reached;
+      fits = rw refused at c.found-founded.ensures.founds.fault;
+      same = (rw refused at c.found-founded.ensures.founds.err) honest reached;
+      untouched = rw refused at c.found-founded.ensures.founds.untouched;
+      lives = (rw refused at c.found-founded.ensures.founds.lives) honest reached;
+      crash = c.found-founded.ensures.founds.crash honest reached;
+      quiet = (rw refused at c.found-founded.ensures.founds.quiet) honest reached;
+      stays = c.found-founded.ensures.founds.stays honest reached;
     }))
 
 pub returns-in_err-founding_noted-clause-prints : goal.returns-in_err-founding_noted-clause-prints
@@ -50,9 +50,9 @@ returns-clause-ends g c =
     (g.B.Read.remaining c.args.body.now) c.as_slice.result.now c.in_ok-intake.intake.bytes.items
     c.args.desk.now.keeper c.found-founded.new.self.keeper c.in_ok-intake.intake.tick _
     c.in_ok-intake.ensures.tick c.as_slice.ensures.value
-    c.in_ok-intake.ensures.body c.print.ensures.fault (rw founded at c.found-founded.ensures.founded)
-    (rw founded at c.found-founded.ensures.durable)
-    (rw founded at c.found-founded.ensures.lives) c.found-founded.ensures.stays
+    c.in_ok-intake.ensures.body c.print.ensures.fault (rw founded at c.found-founded.ensures.founds.founded)
+    (rw founded at c.found-founded.ensures.founds.durable)
+    (rw founded at c.found-founded.ensures.founds.lives) c.found-founded.ensures.founds.stays
 
 pub returns-clause-prints : goal.returns-clause-prints
 returns-clause-prints g c =

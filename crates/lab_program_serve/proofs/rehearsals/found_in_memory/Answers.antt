@@ -27,7 +27,7 @@ returns-in_err-found-clause-refused g c =
     (known_as (g.B.Read.remaining c.args.body.now) c.as_slice.result.now
     c.in_ok-bytes.bytes.items c.as_slice.ensures.value c.in_ok-bytes.ensures.bytes)
     (unfounded_so c.args.lab.now c.as_slice.result.now _ c.in_ok-desk.desk.keeper _ fault.0
-    fault.2 c.founding_tick.ensures c.in_ok-desk.ensures c.in_err-found.ensures.fault))
+    fault.2 c.founding_tick.ensures c.in_ok-desk.ensures c.in_err-found.ensures.founds.fault))
 
 pub returns-clause-founded : goal.returns-clause-founded
 returns-clause-founded g c =
@@ -37,4 +37,4 @@ returns-clause-founded g c =
     c.in_ok-bytes.bytes.items c.as_slice.ensures.value c.in_ok-bytes.ensures.bytes)
     (founded_alone c.args.lab.now c.as_slice.result.now _ c.in_ok-desk.desk.keeper
     c.found.new.self.keeper c.founding_tick.ensures c.in_ok-desk.ensures
-    (c.in_ok-found.ensures.founded tt tt))
+    (c.in_ok-found.ensures.founds.founded tt tt))

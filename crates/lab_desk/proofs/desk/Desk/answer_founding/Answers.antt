@@ -13,31 +13,31 @@ returns-clause-taken g c = λ honest reached taken. elim c.match-found.branch [
       (g.S.Keeper.world c.found.new.self.keeper)
       (g.S.Keeper.places c.args.self.now.keeper c.found.new.self.keeper)
       c.args.lab.now c.args.tick.now (founding_in c.args.body.now) _ c.found.result _
-      w.in-Ok-found.is (c.found.ensures.founded honest reached)
-      (c.found.ensures.lives honest reached) c.in-Ok.ensures)
+      w.in-Ok-found.is (c.found.ensures.founds.founded honest reached)
+      (c.found.ensures.founds.lives honest reached) c.in-Ok.ensures)
   | in-Err w ↦ rw w.result-is (takes_refused g.S.Keeper.world c.args.self.now.keeper
       c.found.new.self.keeper
       c.args.lab.now c.args.tick.now (founding_in c.args.body.now) _ c.found.result _
       honest reached w.in-Err.is (w.line_of_fault.ensures.taken (rw w.result-is at taken))
-      c.found.ensures.fault c.found.ensures.untouched (c.found.ensures.lives honest reached)
-      (c.found.ensures.err honest reached))
+      c.found.ensures.founds.fault c.found.ensures.founds.untouched (c.found.ensures.founds.lives honest reached)
+      (c.found.ensures.founds.err honest reached))
 ]
 
 pub returns-clause-settles : goal.returns-clause-settles
 returns-clause-settles g c = λ honest reached taken. elim c.match-found.branch [
-  | in-Ok-found w ↦ inl (rw w.in-Ok-found.is at c.found.ensures.durable honest reached)
+  | in-Ok-found w ↦ inl (rw w.in-Ok-found.is at c.found.ensures.founds.durable honest reached)
   | in-Err w ↦ settles_refused g.S.Keeper.world c.args.self.now.keeper c.found.new.self.keeper
       c.found.result _ w.in-Err.is (w.line_of_fault.ensures.taken (rw w.result-is at taken)).0
-      (c.found.ensures.quiet honest reached) (c.found.ensures.err honest reached)
-      c.found.ensures.untouched (c.found.ensures.lives honest reached)
+      (c.found.ensures.founds.quiet honest reached) (c.found.ensures.founds.err honest reached)
+      c.found.ensures.founds.untouched (c.found.ensures.founds.lives honest reached)
 ]
 
 pub returns-clause-lives : goal.returns-clause-lives
 returns-clause-lives g c = λ honest reached taken live. elim c.match-found.branch [
-  | in-Ok-found w ↦ (rw w.in-Ok-found.is at c.found.ensures.lives honest reached).1
+  | in-Ok-found w ↦ (rw w.in-Ok-found.is at c.found.ensures.founds.lives honest reached).1
   | in-Err w ↦ lives_refused g.S.Keeper.world c.args.self.now.keeper c.found.new.self.keeper
       c.found.result _ w.in-Err.is (w.line_of_fault.ensures.taken (rw w.result-is at taken)).0
-      c.found.ensures.untouched (c.found.ensures.lives honest reached) live
+      c.found.ensures.founds.untouched (c.found.ensures.founds.lives honest reached) live
 ]
 
 pub returns-in_default-clause-crash : goal.returns-in_default-clause-crash
