@@ -99,9 +99,9 @@ same_size given (mark ∷ marks) (part ∷ parts) found is =
     let more = given_by (λ p. parts_from (with_part given p) marks parts) (part_of mark part) found is in
     ap (λ n. suc n) (same_size (with_part given more.0) marks parts found more.2)
 
-form_of : (p q r : Part) (given : Parts) (key : List ℕ) (n : ℕ) → p ≡ Word → q ≡ Key key → r ≡ Number n
+form_aim : (p q r : Part) (given : Parts) (key : List ℕ) (n : ℕ) → p ≡ Word → q ≡ Key key → r ≡ Number n
     → Some (with_part (with_part (with_part no_parts p) q) r) ≡ Some given → aim_of Form given.first given.second ≡ Some (aim.Form key n)
-form_of p q r given key n word is number whole =
+form_aim p q r given key n word is number whole =
     let same : given ≡ with_part (with_part (with_part no_parts p) q) r = cc in
     rw (same, word, is, number) refl
 
@@ -115,7 +115,7 @@ form_given (a ∷ b ∷ c ∷ []) given is =
     let one = given_by (λ p. parts_from (with_part no_parts p) (codes "{form}" ∷ codes "{version}" ∷ []) (b ∷ c ∷ [])) (part_of (codes "forms") a) given is in
     let two = given_by (λ p. parts_from (with_part (with_part no_parts one.0) p) (codes "{version}" ∷ []) (c ∷ [])) (part_of (codes "{form}") b) given one.2 in
     let three = given_by (λ p. parts_from (with_part (with_part (with_part no_parts one.0) two.0) p) [] []) (part_of (codes "{version}") c) given two.2 in
-    form_of one.0 two.0 three.0 given b (digits_value 10 c) (a_word (bytes_eq (codes "forms") a) one.0 one.1) (a_key (is_key b) b two.0 two.1)
+    form_aim one.0 two.0 three.0 given b (digits_value 10 c) (a_word (bytes_eq (codes "forms") a) one.0 one.1) (a_key (is_key b) b two.0 two.1)
     (a_number c three.0 three.1) three.2
 
 record_of : (p q : Part) (given : Parts) (n : ℕ) → p ≡ Word → q ≡ Number n → Some (with_part (with_part no_parts p) q) ≡ Some given
@@ -134,10 +134,10 @@ record_given (a ∷ b ∷ []) given is =
     let two = given_by (λ p. parts_from (with_part (with_part no_parts one.0) p) [] []) (part_of (codes "{record}") b) given one.2 in
     record_of one.0 two.0 given (digits_value 10 b) (a_word (bytes_eq (codes "records") a) one.0 one.1) (a_number b two.0 two.1) two.2
 
-version_of : (p q r s : Part) (given : Parts) (m n : ℕ) → p ≡ Word → q ≡ Number m → r ≡ Word → s ≡ Number n
+version_aim : (p q r s : Part) (given : Parts) (m n : ℕ) → p ≡ Word → q ≡ Number m → r ≡ Word → s ≡ Number n
     → Some (with_part (with_part (with_part (with_part no_parts p) q) r) s) ≡ Some given
     → aim_of Version given.first given.second ≡ Some (aim.Version m n)
-version_of p q r s given m n word number word_too number_too whole =
+version_aim p q r s given m n word number word_too number_too whole =
     let same : given ≡ with_part (with_part (with_part (with_part no_parts p) q) r) s = cc in
     rw (same, word, number, word_too, number_too) refl
 
@@ -159,7 +159,7 @@ version_given (a ∷ b ∷ c ∷ d ∷ []) given is =
     (part_of (codes "versions") c) given two.2 in
     let four = given_by (λ p. parts_from (with_part (with_part (with_part (with_part no_parts one.0) two.0) three.0) p) [] [])
     (part_of (codes "{version}") d) given three.2 in
-    version_of one.0 two.0 three.0 four.0 given (digits_value 10 b) (digits_value 10 d) (a_word (bytes_eq (codes "records") a) one.0 one.1)
+    version_aim one.0 two.0 three.0 four.0 given (digits_value 10 b) (digits_value 10 d) (a_word (bytes_eq (codes "records") a) one.0 one.1)
     (a_number b two.0 two.1) (a_word (bytes_eq (codes "versions") c) three.0 three.1) (a_number d four.0 four.1) four.2
 
 -- ---- the texts of the routes that have parameters

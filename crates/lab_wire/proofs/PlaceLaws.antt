@@ -287,37 +287,37 @@ module _ (method place : List ℕ) (begins : Begins place) where
 
 -- ---- by the number that the router finds
 
-abbrev number_in : Option Found → Option ℕ
-number_in found = option_map (λ f. f.value) found
+abbrev number_found : Option Found → Option ℕ
+number_found found = option_map (λ f. f.value) found
 
 module _ (place : List ℕ) (begins : Begins place) where
-  by_number : (number : ℕ) (found : Option Found) → first router_of_table place ≡ found → Some number ≡ number_in found
+  by_number : (number : ℕ) (found : Option Found) → first router_of_table place ≡ found → Some number ≡ number_found found
       → (f : Found) × (first router_of_table place ≡ Some f) × (f.value ≡ number)
   by_number number None is same = absurd (cc)
   by_number number (Some f) is same = (f, is, cc)
 
-  pub numbered_within : (number : ℕ) → Some number ≡ number_in (first router_of_table place) → number < length texts
+  pub numbered_within : (number : ℕ) → Some number ≡ number_found (first router_of_table place) → number < length texts
   numbered_within number same =
       let f = by_number number _ refl same in
       let within : f.0.value < length texts = grind (arith, common_steps, number_within place begins f.0 f.1) in
       subst (λ n. n < length texts) f.2 within
 
-  pub numbered_there : (number : ℕ) → Some number ≡ number_in (first router_of_table place) → is_of_text place (text_at number) ≡ true
+  pub numbered_there : (number : ℕ) → Some number ≡ number_found (first router_of_table place) → is_of_text place (text_at number) ≡ true
       → Some (place_at (text_at number)) ≡ place_to place
   numbered_there number same of =
       let f = by_number number _ refl same in
       let there : is_of_text place (text_at f.0.value) ≡ true = ap (λ n. is_of_text place (text_at n)) f.2 ∙ of in
       ap (λ n. Some (place_at (text_at n))) (sym f.2) ∙ found_there place begins f.0 f.1 there
 
-  pub numbered_elsewhere : (number : ℕ) → Some number ≡ number_in (first router_of_table place) → is_of_text place (text_at number) ≡ false
+  pub numbered_elsewhere : (number : ℕ) → Some number ≡ number_found (first router_of_table place) → is_of_text place (text_at number) ≡ false
       → None ≡ place_to place
   numbered_elsewhere number same not =
       let f = by_number number _ refl same in
       found_elsewhere place begins f.0 f.1 (ap (λ n. is_of_text place (text_at n)) f.2 ∙ not)
 
-  nothing : (found : Option Found) → None ≡ number_in found → found ≡ None
+  nothing : (found : Option Found) → None ≡ number_found found → found ≡ None
   nothing None is = refl
   nothing (Some f) is = absurd (cc)
 
-  pub numbered_nowhere : None ≡ number_in (first router_of_table place) → None ≡ place_to place
+  pub numbered_nowhere : None ≡ number_found (first router_of_table place) → None ≡ place_to place
   numbered_nowhere is = found_nowhere place begins (nothing (first router_of_table place) is)

@@ -38,29 +38,29 @@ parts_from given (mark ∷ marks) (segment ∷ more) =
     option_and_then (λ part. parts_from (with_part given part) marks more) (part_of mark segment)
 
 -- the key, and the number, that a part is
-abbrev pub key_in : Part → Option (List ℕ)
-key_in (Key key) = Some key
-key_in _ = None
+abbrev pub key_part : Part → Option (List ℕ)
+key_part (Key key) = Some key
+key_part _ = None
 
-abbrev pub number_in : Part → Option ℕ
-number_in (Number number) = Some number
-number_in _ = None
+abbrev pub number_part : Part → Option ℕ
+number_part (Number number) = Some number
+number_part _ = None
 
 -- what a route asks with its parameters
-abbrev pub form_of : Option (List ℕ) → Option ℕ → Option Aim
-form_of (Some code) (Some version) = Some (aim.Form code version)
-form_of _ _ = None
+abbrev pub form_aim : Option (List ℕ) → Option ℕ → Option Aim
+form_aim (Some code) (Some version) = Some (aim.Form code version)
+form_aim _ _ = None
 
-abbrev pub version_of : Option ℕ → Option ℕ → Option Aim
-version_of (Some number) (Some version) = Some (aim.Version number version)
-version_of _ _ = None
+abbrev pub version_aim : Option ℕ → Option ℕ → Option Aim
+version_aim (Some number) (Some version) = Some (aim.Version number version)
+version_aim _ _ = None
 
 abbrev pub aim_of : Route → Part → Part → Option Aim
 aim_of Card first second = Some aim.Card
 aim_of Persons first second = Some aim.Persons
-aim_of Form first second = form_of (key_in first) (number_in second)
-aim_of Record first second = option_map aim.Record (number_in second)
-aim_of Version first second = version_of (number_in first) (number_in second)
+aim_of Form first second = form_aim (key_part first) (number_part second)
+aim_of Record first second = option_map aim.Record (number_part second)
+aim_of Version first second = version_aim (number_part first) (number_part second)
 aim_of Records first second = Some aim.Records
 aim_of Trail first second = Some aim.Trail
 aim_of Copy first second = Some aim.Copy

@@ -3,7 +3,7 @@
 ghost use Rattle.std.specs.Prelude.{◌≡◌, if◌then◌else◌, Some, None, IfOk};
 ghost use Rattle.lab_wire.specs.Paths.{segments};
 ghost use Rattle.lab_wire.specs.Routes.{is_number_mark, is_key_mark};
-ghost use Rattle.lab_wire.specs.Aims.{part_of, key_in, number_in, with_part, no_parts, parts_from, form_of, aim_of};
+ghost use Rattle.lab_wire.specs.Aims.{part_of, key_part, number_part, with_part, no_parts, parts_from, form_aim, aim_of};
 
 use crate::numbers::ordinal_in;
 use crate::paths::next_segment;
@@ -150,7 +150,7 @@ fn part_of<'t>(mark: &str, segment: &'t str) -> Option<Part<'t>>
 impl<'t> Part<'t> {
     // The key, if the part is one.
     fn key(self) -> Option<Admitted<'t, Keys>>
-        ensures { result ≡ key_in self.entry }
+        ensures { result ≡ key_part self.entry }
     {
         match self {
             Part::Key(key) => Some(key),
@@ -160,7 +160,7 @@ impl<'t> Part<'t> {
 
     // The number, if the part is one.
     fn number(&self) -> Option<Ordinal>
-        ensures { result ≡ number_in self.now }
+        ensures { result ≡ number_part self.now }
     {
         match self {
             Part::Number(number) => Some(*number),
@@ -208,8 +208,8 @@ pub fn parts_by<'t>(text: &str, place: &'t str) -> Option<Parts<'t>>
 }
 
 // A version of a form.
-fn form_of<'t>(parts: Parts<'t>) -> Option<Aim<'t>>
-    ensures { result ≡ form_of (key_in parts.entry.first) (number_in parts.entry.second) }
+fn form_aim<'t>(parts: Parts<'t>) -> Option<Aim<'t>>
+    ensures { result ≡ form_aim (key_part parts.entry.first) (number_part parts.entry.second) }
 {
     let version = parts.second.number()?;
     let code = parts.first.key()?;
@@ -223,7 +223,7 @@ pub fn aim_of<'t>(route: Route, parts: Parts<'t>) -> Option<Aim<'t>>
     match route {
         Route::Card => Some(Aim::Card),
         Route::Persons => Some(Aim::Persons),
-        Route::Form => form_of(parts),
+        Route::Form => form_aim(parts),
         Route::Record => Some(Aim::Record {
             number: parts.second.number()?,
         }),
