@@ -58,7 +58,7 @@ query_read : IsRead (first number_query)
 unfolding understood everything
 query_read = (_, refl)
 
-abbrev IsBare : Compiled → Type 0
+abbrev pub IsBare : Compiled → Type 0
 IsBare c = c.returning ≡ None
 
 -- what a statement is planned as, whose command is this
@@ -99,7 +99,7 @@ selected (Ok it) c h = go (is_select it.command) h
     go false e = absurd cc
 selected (Err e) c h = absurd cc
 
-understood_bare : (s : Schema) (c : Compiled) → understood s number_query ≡ Ok c → IsBare c
+pub understood_bare : (s : Schema) (c : Compiled) → understood s number_query ≡ Ok c → IsBare c
 unfolding understood
 understood_bare s c h = go (reads_listing s number_query) h
   where

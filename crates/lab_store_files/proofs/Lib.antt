@@ -5,3 +5,4 @@ mod Asking
 mod FaultLemmas
 mod RowLemmas
 pub mod KnownValues
+pub mod OwedLemmas

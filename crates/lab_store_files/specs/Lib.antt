@@ -2,4 +2,5 @@ pub mod Faults
 pub mod Tables
 pub mod Schemas
 pub mod Verdicts
+pub mod Owed
 pub mod NewFiles

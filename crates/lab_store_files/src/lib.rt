@@ -12,4 +12,4 @@ mod texts;
 
 pub use creating::create;
 pub use faults::FileFault;
-pub use opening::open;
+pub use opening::{one_answer_is_owed, open};

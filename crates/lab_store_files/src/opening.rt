@@ -1,11 +1,15 @@
 //! Opens an existing file, if it has this schema.
 
-ghost use Rattle.std.specs.Prelude.{◌≡◌, ◌⊎◌, [], Ok, IfOk, OnOk};
+ghost use Rattle.std.specs.Prelude.{◌≡◌, ◌⊎◌, ℕ, ℤ, ◌≤◌, Bool, Option, Result, [], Ok, IfOk, OnOk};
 ghost use Rattle.sqlite_value.specs.Order.{column};
 ghost use Rattle.sqlite.specs.Held.{state};
 ghost use Rattle.sqlite.specs.State.{HasCleanDisk, IsUnchanged, Shown};
 ghost use Rattle.lab_store_tables.specs.Ready.{IsAtRest, IsKept, LeavesNoMore, PassesBy, WhereShown};
+ghost use Rattle.lab_store_tables.specs.Schema.{schema_number};
+ghost use Rattle.lab_store_files.specs.declared.faults.FileFault.{FileFault as Fault};
 ghost use Rattle.lab_store_files.specs.Faults.{FailedInStore};
+ghost use Rattle.lab_store_files.specs.Owed.{AnswersOwed, IsOwed};
+ghost use Rattle.lab_store_files.specs.Schemas as spec;
 ghost use Rattle.lab_store_files.specs.Verdicts.{integer_in, number_query, number_shown, number_verdict, file_verdict, AnswersVerdict};
 
 use crate::faults::FileFault;
@@ -17,6 +21,16 @@ use sqlite_schema::schema::Schema;
 
 /// The number of the schema that the tables of this crate make.
 const SCHEMA: i64 = 3;
+
+/// Law: a file owes one answer, and not two, whatever schema is wanted, whatever tables it has and
+/// whatever number it names.
+pub fn one_answer_is_owed()
+    ensures some { (wanted : ℕ) → 1 ≤ wanted → (whole : Bool) → (number : Option ℤ) →
+        (answer : Result (Unit {0}) Fault) × IsOwed wanted whole number answer }
+    ensures alone { (wanted : ℕ) → 1 ≤ wanted → (whole : Bool) → (number : Option ℤ) →
+        (one other : Result (Unit {0}) Fault) → IsOwed wanted whole number one →
+        IsOwed wanted whole number other → one ≡ other }
+{}
 
 // The whole number in the first column of a row.
 fn integer_in(row: &Row) -> Option<i64>
@@ -95,6 +109,9 @@ pub fn open<S: Alter>(conn: &mut Connection<S>) -> Result<(), FileFault>
     // The answer is the verdict on the file, unless the store failed first:
     ensures answer { HasCleanDisk (state S.Store conn.new) →
         AnswersVerdict (state S.Store conn.old) (state S.Store conn.new) result }
+    // Each refusal is told exactly where the file owes it, unless the store failed:
+    ensures owed { HasCleanDisk (state S.Store conn.new) →
+        AnswersOwed schema_number spec.is_whole (state S.Store conn.old).now result }
     // A file of ours is never refused as a foreign one:
     ensures ours { HasCleanDisk (state S.Store conn.new) →
         WhereShown (state S.Store conn.old) (IsKept (state S.Store conn.old).now →
