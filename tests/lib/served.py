@@ -1,9 +1,11 @@
 """The program of a script of tests/, and `labdesk serve` over a file, as one server that is started, asked and stopped."""
+import http.client
 import os
 import re
 import shutil
 import signal
 import socket
+import ssl
 import subprocess
 import sys
 
@@ -12,19 +14,29 @@ TOP = os.path.dirname(os.path.dirname(os.path.dirname(os.path.abspath(__file__))
 PATIENCE = 300
 
 
-def program_of(report, words, *commands, crate="lab_program"):
-    """The path of a crate's program: the first of the words, or the proved one, which is built if it isn't there. Where there is none, or one
-    of the commands isn't on the path, a line says so, and the script ends."""
+def want_commands(report, *commands):
+    """Where one of the commands isn't on the path, a line says so, and the script ends."""
     missing = [command for command in commands if shutil.which(command) is None]
     for command in missing:
         report.say(False, f"no command {command} on the path")
     if missing:
         sys.exit(1)
+
+
+def program_of(report, words, *commands, crate="lab_program"):
+    """The path of a crate's program: the first of the words, or the proved one, which is built if it isn't there. Where there is none, or one
+    of the commands isn't on the path, a line says so, and the script ends."""
+    want_commands(report, *commands)
     ran = words[0] if words else subprocess.run([f"{TOP}/tools/program", crate], stdout=subprocess.PIPE, text=True).stdout.strip()
     if not os.access(ran, os.X_OK):
         report.say(False, "the program isn't there")
         sys.exit(1)
     return os.path.abspath(ran)
+
+
+def site_client(port, address="127.0.0.1", patience=PATIENCE, **how):
+    """A client of a site, as one of nginx, of which any certificate is taken."""
+    return http.client.HTTPSConnection(address, port, timeout=patience, context=ssl._create_unverified_context(), **how)
 
 
 def received(client):

@@ -21,13 +21,15 @@ import random
 import subprocess
 import sys
 
-import admitted
-import cases_of_requests
-import laboratory
-from accounts import FROM_NOTHING, FROM_SETUP
-from bodies import BODIES, members_of_the_body
-from laboratory import sha, token_of
-from streams import FOUNDERS, LEAD, NOTE, POSTED, STATUS, Stream, compact, lines, request_of, split
+sys.path.append(os.path.join(os.path.dirname(os.path.dirname(os.path.abspath(__file__))), "lib"))
+import admitted  # noqa: E402
+import cases_of_requests  # noqa: E402
+import laboratory  # noqa: E402
+from accounts import FROM_NOTHING, FROM_SETUP  # noqa: E402
+from bodies import BODIES, members_of_the_body  # noqa: E402
+from laboratory import sha, token_of  # noqa: E402
+from report import Report  # noqa: E402
+from streams import FOUNDERS, LEAD, NOTE, POSTED, STATUS, Stream, compact, lines, request_of, split  # noqa: E402
 
 NEWCOMERS = [("dan", "Dan Day", ["analyst"]), ("eve", "Eve Ems", ["analyst", "reviewer"]), ("fay", "Fay Fox", ["reviewer"]),
              ("gus", "Gus Gray", ["manager"]), ("hal", "Hal Hill", ["inspector"])]
@@ -1206,20 +1208,16 @@ def some():
     return [name for name in CASES if name not in others] + others[::4]
 
 
-def play(program, names):
-    """A line for each case. Gives the numbers of the refusals that were seen, and how many cases failed."""
-    seen, failed = set(), 0
+def play(report, program, names):
+    """A line for each case. Gives the numbers of the refusals that were seen."""
+    seen = set()
     with concurrent.futures.ThreadPoolExecutor(os.cpu_count()) as pool:
         running = [(name, s, pool.submit(difference, program, s)) for name in names for s in [stream_of(name)]]
         for name, s, run in running:
-            otherwise = run.result()
-            if otherwise is None:
-                print(f"ok cases: {name.replace('_', ' ')}, {len(s.events)} events")
+            otherwise, what = run.result(), name.replace("_", " ")
+            if report.say(otherwise is None, f"{what}: {otherwise}" if otherwise else f"{what}, {len(s.events)} events"):
                 seen |= s.numbers
-            else:
-                print(f"FAILED cases: {name.replace('_', ' ')}: {otherwise}")
-                failed += 1
-    return seen, failed
+    return seen
 
 
 def main(words):
@@ -1231,14 +1229,13 @@ def main(words):
         return 0
     if not words or words[0].startswith("-"):
         sys.exit(__doc__)
-    names = some() if words[1:] == ["--some"] else words[1:]
-    seen, failed = play(words[0], names or CASES)
-    if names:
-        return 1 if failed else 0
-    missing = sorted(set(STATUS) - {63, 90} - seen)
-    told = ", ".join(map(str, sorted(seen)))
-    print(f"FAILED cases: no case has seen the refusals {missing}" if missing else f"ok cases: each refusal was seen: {told}")
-    return 1 if failed or missing else 0
+    names, report = some() if words[1:] == ["--some"] else words[1:], Report("cases")
+    seen = play(report, words[0], names or CASES)
+    if not names:
+        missing = sorted(set(STATUS) - {63, 90} - seen)
+        told = ", ".join(map(str, sorted(seen)))
+        report.say(not missing, f"no case has seen the refusals {missing}" if missing else f"each refusal was seen: {told}")
+    return report.status
 
 
 if __name__ == "__main__":
