@@ -1,9 +1,7 @@
 """What the test of the pages starts and asks: a laboratory in a file, labdesk-pages over it, and the server itself."""
 import contextlib
 import ctypes
-import http.client
 import json
-import os
 import pathlib
 import re
 import signal
@@ -12,23 +10,18 @@ import sys
 import tempfile
 
 TOP = pathlib.Path(__file__).resolve().parent.parent.parent
+sys.path.append(f"{TOP}/tests/lib")
+import asking  # noqa: E402
+import served  # noqa: E402
+from report import Report  # noqa: E402
+
 PATIENCE = 120
-SAID = {"ok": 0, "FAILED": 0}
+report = Report("pages")
+say, same = report.say, report.same
 
 
 class Stop(Exception):
     """The day can't go on."""
-
-
-def say(good, what):
-    """A line for what was looked at."""
-    word = "ok" if good else "FAILED"
-    SAID[word] += 1
-    print(f"{word} pages: {what}", flush=True)
-
-
-def same(what, there, wanted):
-    say(there == wanted, what if there == wanted else f"{what}: {there!r:.500}, and {wanted!r:.500} is wanted")
 
 
 class Refused(Exception):
@@ -47,28 +40,22 @@ class Asker:
         if code:
             self.token = self.post("open", code=code, password=password)["token"]
 
-    def send(self, method, place, body=None):
-        client = http.client.HTTPConnection("127.0.0.1", self.port, timeout=PATIENCE)
-        headers = {"Authorization": f"LabSession {self.token}"} if self.token else {}
+    def send(self, method, place, members=None):
+        """The body of the reply."""
         path = f"/labs/{self.lab}" + (f"/{place}" if place else "")
-        client.request(method, path, body, headers)
-        reply = client.getresponse()
-        return reply.status, reply.read()
-
-    def get(self, place=""):
-        status, body = self.send("GET", place)
+        status, body = asking.parted(served.Port(self.port).answer(asking.request_of(method, path, members, self.token)))
         if status != 200:
             raise Refused(json.loads(body))
-        return json.loads(body)
+        return body
 
-    def post(self, place, **body):
-        status, reply = self.send("POST", place, json.dumps(body).encode())
-        if status != 200:
-            raise Refused(json.loads(reply))
-        return json.loads(reply)
+    def get(self, place=""):
+        return json.loads(self.send("GET", place))
+
+    def post(self, place, **members):
+        return json.loads(self.send("POST", place, members))
 
     def copy(self, first, last):
-        return self.send("GET", f"copy?from={first}&to={last}")[1]
+        return self.send("GET", f"copy?from={first}&to={last}")
 
 
 def labdesk(program, words, given=b""):
@@ -155,10 +142,4 @@ def let_in(asker, confirmer, code, name, roles):
 
 def program_of(words):
     """The path of the program that is given, or of the proved one."""
-    if words:
-        return os.path.abspath(words[0])
-    ran = subprocess.run([TOP / "tools/program", "lab_program"], stdout=subprocess.PIPE, text=True)
-    if ran.returncode:
-        say(False, "the program isn't there")
-        sys.exit(1)
-    return ran.stdout.strip()
+    return served.program_of(report, words)

@@ -1,16 +1,15 @@
 """labdesk-pages as its user meets it, what the site sends with each reply, and what the files of the pages hold."""
 import contextlib
 import gzip
-import http.client
 import re
 import shutil
 import signal
 import socket
-import ssl
 import subprocess
 import time
 
 from room import PATIENCE, TOP, Asker, Served, Stop, same, say
+from served import site_client
 
 MOST_BYTES, MOST_SENT = 345_000, 125_000
 # The one module that keeps something, and how it may: the code of a laboratory, which is no secret, under one key.
@@ -34,9 +33,7 @@ def pages():
 
 def fetched(tls, path, method="GET", headers=None):
     """The status, the headers and the body of a reply of nginx."""
-    context = ssl.create_default_context()
-    context.check_hostname, context.verify_mode = False, ssl.CERT_NONE
-    client = http.client.HTTPSConnection("127.0.0.1", tls, timeout=PATIENCE, context=context)
+    client = site_client(tls, patience=PATIENCE)
     client.request(method, path, headers=headers or {})
     reply = client.getresponse()
     return reply.status, reply.headers, reply.read()

@@ -1,8 +1,12 @@
 """What a test in a browser wants of this machine."""
 import importlib.util
 import os
+import pathlib
 import shutil
 import sys
+
+sys.path.append(str(pathlib.Path(__file__).resolve().parent.parent / "lib"))
+from report import Report  # noqa: E402
 
 DEBIAN = "/usr/bin/python3"
 SITE = {"nginx": "nginx-light", "openssl": "openssl"}
@@ -21,7 +25,7 @@ def prepare(name, commands=COMMANDS, modules=("selenium",)):
             os.execv(DEBIAN, [DEBIAN, *sys.argv])
         missing.append("no module selenium of Python: the Debian package python3-selenium has it")
     for line in missing:
-        print(f"FAILED {name}: {line}", flush=True)
+        Report(name).say(False, line)
     if missing:
         sys.exit(1)
     # The browser and its driver are reached on this machine.

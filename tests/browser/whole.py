@@ -5,19 +5,19 @@ import traceback
 
 from bench import look_at_bench
 from copying import look_at_altered, look_at_mutated
-from day import FOUNDERS, LAB, NAME, Day
+from crowded import found_many, look_at_many, look_at_no_server, look_at_too_often
 from entering import look_at_entering
-from hostile import found_wild, look_at_hostile
 from long import look_at_long
 from losing import found_calm, look_at_losing
-from many import found_many, look_at_many, look_at_no_server, look_at_too_often
+from markup import found_wild, look_at_hostile
 from paper import look_at_copies, look_at_paper
-from room import SAID, Refused, Stop, found, program_of, say, serving
+from room import Refused, Stop, found, program_of, report, say, serving
 from screen import NARROW, WIDE, Screen, looked_over
 from seeking import look_at_seeking
 from selenium.common.exceptions import WebDriverException
 from serving_site import look_at_compression, look_at_files, look_at_headers, look_at_one_connection, look_at_the_starter
 from tabs import look_at_tabs
+from workday import FOUNDERS, LAB, NAME, Day
 from working import found_busy, look_at_working
 
 # The pictures of docs/pages/, each at two widths.
@@ -144,5 +144,4 @@ def play(room, words, pictures):
         look_at_the_starter(program, room)
     except Stop as fault:
         say(False, str(fault))
-    print(f"{SAID['ok']} ok, {SAID['FAILED']} failed")
-    return 1 if SAID["FAILED"] else 0
+    return report.end()

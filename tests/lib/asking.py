@@ -1,5 +1,6 @@
 """One way to ask a server: a request of some members, in the session of a token, and the status and the members of its reply."""
 import json
+import re
 
 
 def request_of(method, path, members=None, token=None, host="d"):
@@ -12,8 +13,11 @@ def request_of(method, path, members=None, token=None, host="d"):
 
 
 def parted(reply):
-    """The status of a reply, and the bytes of its body."""
-    head, _, body = reply.partition(b"\r\n\r\n")
+    """The status of a reply, and the bytes of its body. Where it isn't whole, that is a fault of the connection."""
+    head, behind, body = reply.partition(b"\r\n\r\n")
+    length = re.search(rb"\r\nContent-Length: (\d+)", head)
+    if not behind or (length and len(body) < int(length[1])):
+        raise ConnectionError(f"no whole reply: {reply!r:.200}")
     return int(head.split()[1]), body
 
 

@@ -56,13 +56,13 @@ class Port:
     def __init__(self, port):
         self.port = port
 
-    def connect(self):
-        return socket.create_connection(("127.0.0.1", self.port), timeout=PATIENCE)
+    def connect(self, patience=PATIENCE):
+        return socket.create_connection(("127.0.0.1", self.port), timeout=patience)
 
-    def answer(self, request, is_last=True):
+    def answer(self, request, is_last=True, patience=PATIENCE):
         """All that is answered on a connection of its own to these bytes, after which nothing comes, or the client waits. A server may
         close it before it has read them all."""
-        with self.connect() as client:
+        with self.connect(patience) as client:
             try:
                 client.sendall(request)
                 if is_last:

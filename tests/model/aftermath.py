@@ -8,12 +8,9 @@ import sqlite3
 import tempfile
 
 import rows
+from report import must_be
 
 ENDS = ("", "-wal")
-
-
-class Broken(Exception):
-    """What the C library finds wrong, or what isn't as it is wanted."""
 
 
 @contextlib.contextmanager
@@ -31,9 +28,7 @@ def told(path, room, codes):
     """What the tables say of the laboratories of these codes, once the C library has found nothing wrong."""
     with copied(path, room) as base:
         for pragma, wanted in (("integrity_check", [("ok",)]), ("foreign_key_check", [])):
-            there = base.execute(f"PRAGMA {pragma}").fetchall()
-            if there != wanted:
-                raise Broken(f"{pragma}: {there[:3]!r}")
+            must_be(pragma, base.execute(f"PRAGMA {pragma}").fetchall(), wanted)
         return "".join(rows.told(base, code) for code in codes)
 
 
@@ -46,10 +41,8 @@ def same(what, path, room, labs):
     """The tables say what these laboratories are, row by row."""
     there, other = told(path, room, [*labs, "all"]).split("\n"), wanted(labs).split("\n")
     for one, two in zip(there, other):
-        if one != two:
-            raise Broken(f"{what}: the row {two!r:.300} is wanted, and there is {one!r:.300}")
-    if len(there) != len(other):
-        raise Broken(f"{what}: {len(other)} rows are wanted, and there are {len(there)}")
+        must_be(f"{what}: a row", one, two)
+    must_be(f"{what}: how many rows", len(there), len(other))
 
 
 def told_by(labs, codes):

@@ -9,7 +9,7 @@ import os
 import sys
 
 import rows
-from copies import played
+from copied import played
 from laboratory import copy_rows
 
 FORMULA = '=HYPERLINK("http://example.org","S5")'
