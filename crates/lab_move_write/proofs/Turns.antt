@@ -1,8 +1,10 @@
 -- Calls inside a transaction that make changes in turn: one after another, and for the items of a list.
-use Rattle.std.proofs.Common.{◌≡◌, ℕ, ◌+◌, ◌<◌, ◌≤◌, ℤ, cond, List, [], ◌∷◌, ◌++◌, map, filter, take, get_or, length, IsTrue, Option, Some, None, is_some, Result, Ok, Err, OnOk, IfOk, refl, sym, ap, subst, ◌∙◌, arith}
+use Rattle.std.proofs.Common.{◌≡◌, ◌⊎◌, ℕ, ◌+◌, ◌<◌, ◌≤◌, ℤ, cond, List, [], ◌∷◌, ◌++◌, map, filter, take, get_or, length, IsTrue, Option, Some, None, is_some, Result, Ok, Err, OnOk, IfOk, refl, sym, ap, subst, ◌∙◌, arith}
+use Rattle.std.specs.Prelude.{IsErrAnd}
 use Rattle.std.proofs.lemmas.List.{take_more, take_all, map-append}
 use Rattle.std.proofs.lemmas.List.Elements.{filter-append}
 use Rattle.sqlite_schema.specs.Rules.{Obeys}
+use Rattle.sqlite.specs.declared.error.Error.{Error}
 use Rattle.sqlite.specs.Effect.{Database, IsDatabase}
 use Rattle.sqlite.specs.State.{State, HasCleanDisk}
 use Rattle.lab_people_access.specs.declared.persons.Ask.{Ask}
@@ -19,7 +21,9 @@ use Rattle.lab_store_laws.specs.ByRules.{IsByRules}
 use Rattle.lab_store_laws.specs.Steps.{AppliesWhereKept, StepsBy}
 use Rattle.lab_store_laws.proofs.KeptByRules.{ids_by_order, keys_by_rules, arrows_by_rules}
 use Rattle.lab_store_write.specs.Calls.{Steps, Writes}
+use Rattle.lab_store_write.specs.Causes.{FailsBy}
 use Rattle.lab_store_write.proofs.Writers.{nothing_done, stays_then}
+use Rattle.lab_store_write_changes.proofs.Failures.{failed_behind}
 use Rattle.lab_move_write.specs.Turns.{MakesInTurn}
 
 -- what a database that keeps its own rules says of the tables
@@ -69,27 +73,31 @@ both_steps lab xs ys a b c p q inside rules = record {
 module _ {T : Type 0} {lender : T → ℕ × ℕ} {state : T → State} (lab : ℤ) where
   -- ---- no call
 
-  pub nothing_made : {A E : Type 0} (a : T) (x : A) → MakesInTurn {E = E} lender state lab [] a a (Ok x)
+  pub nothing_made : {A : Type 0} (a : T) (x : A) → MakesInTurn lender state lab [] a a (Ok x)
   nothing_made a x = record {
     stays = nothing_done a;
     inside = λ inside clean. inside;
     made = λ inside clean rules. none_made lab (state a) inside;
+    typed = λ inside clean typed. typed;
+    failed = λ inside clean typed. tt;
   }
 
   -- ---- one change
 
-  pub one_made : {A E : Type 0} (one : Change) {old new : T} {r : Result A E} → Writes lender state (AppliesWhereKept lab one) old new r
+  pub one_made : {A : Type 0} (one : Change) {old new : T} {r : Result A Error} → Writes lender state (AppliesWhereKept lab one) old new r
       → MakesInTurn lender state lab (one ∷ []) old new r
   one_made one {old} {new} {r} it = record {
     stays = it.stays;
     inside = λ inside clean. if_then_on r (λ x steps. steps.inside) (it.made inside clean);
     made = λ inside clean. if_then_on r (λ x steps rules. one_step lab one (state old) (state new) steps rules) (it.made inside clean);
+    typed = λ inside clean. if_then_on r (λ x steps typed. (steps.made typed).0) (it.made inside clean);
+    failed = it.failed;
   }
 
   -- ---- one call and then another
 
-  module _ {A E : Type 0} {xs ys : List Change} {a b c : T} {x : A} (p : MakesInTurn {E = E} lender state lab xs a b (Ok x)) where
-    pub made_then : {B F : Type 0} {r : Result B F} → MakesInTurn lender state lab ys b c r → MakesInTurn lender state lab (xs ++ ys) a c r
+  module _ {A : Type 0} {xs ys : List Change} {a b c : T} {x : A} (p : MakesInTurn lender state lab xs a b (Ok x)) where
+    pub made_then : {B : Type 0} {r : Result B Error} → MakesInTurn lender state lab ys b c r → MakesInTurn lender state lab (xs ++ ys) a c r
     made_then {r = r} q = record {
       stays = stays_then p.stays p.inside q.stays;
       inside = λ inside clean. q.inside (p.inside inside (early clean)) clean;
@@ -97,35 +105,56 @@ module _ {T : Type 0} {lender : T → ℕ × ℕ} {state : T → State} (lab : �
           let mid = p.inside inside (early clean) in
           on_two r (λ on made rules. both_steps lab xs ys (state a) (state b) (state c) (p.made inside (early clean) rules) made on rules)
           (q.inside mid clean) (q.made mid clean);
+      typed = λ inside clean. on_two r (λ on still typed. still (p.typed inside (early clean) typed)) (q.inside (p.inside inside (early clean)) clean)
+          (q.typed (p.inside inside (early clean)) clean);
+      failed = λ inside clean typed.
+          failed_behind state ⊥ a b c p.stays.survives r (q.failed (p.inside inside (early clean)) clean (p.typed inside (early clean) typed));
     }
       where
         early : HasCleanDisk (state c) → HasCleanDisk (state b)
         early clean = let s = q.stays.survives in omega (arith, s.clean)
 
+-- the failure of a call is that of one that passes it on
+pub turn_fails : {T A B : Type 0} {lender : T → ℕ × ℕ} {state : T → State} {lab : ℤ} {xs ys : List Change} {a b : T} {e : Error} → MakesInTurn {A = A} lender state lab xs a b (Err e)
+    → (r : Result B Error) → IsErrAnd r (λ d. d ≡ e) → MakesInTurn lender state lab ys a b r
+turn_fails it (Ok x) failed = absurd failed
+turn_fails {state = state} {a = a} {b = b} it (Err d) failed = record {
+  stays = it.stays;
+  inside = λ inside clean. tt;
+  made = λ inside clean. tt;
+  typed = λ inside clean. tt;
+  failed = λ inside clean typed. subst (λ (d : Error). ⊥ ⊎ FailsBy state a b d) (sym failed) (it.failed inside clean typed);
+}
+
 -- the changes in other words
-pub changes_as : {T : Type 0} {lender : T → ℕ × ℕ} {state : T → State} {lab : ℤ} {A E : Type 0} {xs ys : List Change} {a b : T} {r : Result A E} → xs ≡ ys
+pub changes_as : {T : Type 0} {lender : T → ℕ × ℕ} {state : T → State} {lab : ℤ} {A : Type 0} {xs ys : List Change} {a b : T} {r : Result A Error} → xs ≡ ys
     → MakesInTurn lender state lab xs a b r → MakesInTurn lender state lab ys a b r
 changes_as {lender = lender} {state = state} {lab = lab} {a = a} {b = b} {r = r} same it = subst (λ list. MakesInTurn lender state lab list a b r) same it
 
 -- ---- calls in turn, for the items of a list
 
-module _ {T A B E : Type 0} {lender : T → ℕ × ℕ} {state : T → State} (lab : ℤ) (changes_of : List A → List Change)
+module _ {T A B : Type 0} {lender : T → ℕ × ℕ} {state : T → State} (lab : ℤ) (changes_of : List A → List Change)
     (split : (xs : List A) (one : A) → changes_of (xs ++ one ∷ []) ≡ changes_of xs ++ changes_of (one ∷ []))
-    (xs : List A) (i : ℕ) {a b : T} {x : B} (p : MakesInTurn {E = E} lender state lab (changes_of (take i xs)) a b (Ok x)) where
-  item_made : {C F : Type 0} {c : T} (one : A) {r : Result C F} → one ≡ get_or xs i one → i < length xs
+    (xs : List A) (i : ℕ) {a b : T} {x : B} (p : MakesInTurn lender state lab (changes_of (take i xs)) a b (Ok x)) where
+  item_made : {C : Type 0} {c : T} (one : A) {r : Result C Error} → one ≡ get_or xs i one → i < length xs
       → MakesInTurn lender state lab (changes_of (one ∷ [])) b c r → MakesInTurn lender state lab (changes_of (take (i + 1) xs)) a c r
   item_made one is within q =
       changes_as (sym (split (take i xs) one) ∙ ap (λ (item : A). changes_of (take i xs ++ item ∷ [])) is ∙ ap changes_of (sym (take_more xs i one within)))
       (made_then lab p q)
 
   -- one item more
-  pub item_more : {C F : Type 0} {c : T} {y : C} (one : A) → one ≡ get_or xs i one → i < length xs
-      → MakesInTurn {E = F} lender state lab (changes_of (one ∷ [])) b c (Ok y) → MakesInTurn {E = E} lender state lab (changes_of (take (i + 1) xs)) a c (Ok x)
+  pub item_more : {C : Type 0} {c : T} {y : C} (one : A) → one ≡ get_or xs i one → i < length xs
+      → MakesInTurn lender state lab (changes_of (one ∷ [])) b c (Ok y) → MakesInTurn lender state lab (changes_of (take (i + 1) xs)) a c (Ok x)
   item_more one is within q =
       let it = item_made one is within q in
-      record { stays = it.stays; inside = λ inside clean. it.inside inside clean; made = λ inside clean. it.made inside clean }
+      record { stays = it.stays; inside = λ inside clean. it.inside inside clean; made = λ inside clean. it.made inside clean; typed = λ inside clean. it.typed inside clean; failed = λ inside clean typed. tt }
 
-  pub items_made : length xs ≤ i → MakesInTurn {E = E} lender state lab (changes_of xs) a b (Ok x)
+  -- one item fails
+  pub item_fails : {C D : Type 0} {c : T} {e : Error} {ys zs : List Change} → MakesInTurn {A = C} lender state lab ys b c (Err e)
+      → (r : Result D Error) → IsErrAnd r (λ d. d ≡ e) → MakesInTurn lender state lab zs a c r
+  item_fails q r failed = turn_fails (made_then lab p q) r failed
+
+  pub items_made : length xs ≤ i → MakesInTurn lender state lab (changes_of xs) a b (Ok x)
   items_made all = changes_as (ap changes_of (take_all i xs all)) p
 
 -- ---- the kinds

@@ -7,7 +7,8 @@ ghost use Rattle.lab_records_kept.specs.Bound.{IsBound};
 ghost use Rattle.lab_records_kept.specs.Dual.{IsDual};
 ghost use Rattle.lab_records_kept.specs.Limits.{IsWithin};
 ghost use Rattle.lab_store_tables.specs.Ready.{IsAtRest, IsMadeBy};
-ghost use Rattle.lab_store_write.specs.Calls.{Steps, Writes};
+ghost use Rattle.lab_store_write.specs.Calls.{Steps, WritesUnless};
+ghost use Rattle.lab_store_write.specs.Causes.{IsTooGreat};
 ghost use Rattle.lab_move_files.specs.Commits.{MakesAtOnce};
 ghost use Rattle.lab_move_laws.specs.Placings.{PlacesByRules};
 ghost use Rattle.lab_move_write.specs.Carrying.{Carries};
@@ -27,7 +28,8 @@ fn add_whole<W: Writable, P: MoveProgress>(
     lab: &Lab,
     progress: &mut P,
 ) -> Result<(), Error>
-    ensures { Writes W.lender W.state (PlacesByRules lab.now) tx.old tx.new result }
+    ensures { WritesUnless (λ _. IsTooGreat lab.now.strays) W.lender W.state
+        (PlacesByRules lab.now) tx.old tx.new result }
 {
     let row = add_lab(tx, lab)?;
     add_kinds(tx, row, lab, progress)

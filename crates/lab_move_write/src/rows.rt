@@ -4,7 +4,8 @@ ghost use Rattle.std.specs.Prelude.{OnOk, IsTrue};
 ghost use Rattle.sqlite.specs.Effect.{IsDatabase};
 ghost use Rattle.sqlite.specs.State.{HasCleanDisk};
 ghost use Rattle.lab_store_tables.specs.Held.{IsTyped};
-ghost use Rattle.lab_store_write.specs.Calls.{AnswersCall};
+ghost use Rattle.lab_store_write.specs.Calls.{AnswersUnless};
+ghost use Rattle.lab_store_write.specs.Causes.{IsTooGreat};
 ghost use Rattle.lab_store_write_changes.specs.NewbornRows.{AddsLab};
 
 use lab_records_kept::Lab;
@@ -18,7 +19,8 @@ use sqlite::Error;
 /// # Errors
 /// Those of `Writable`, and a number that is too great for the store.
 pub(crate) fn add_lab<W: Writable>(tx: &mut W, lab: &Lab) -> Result<RowId, Error>
-    ensures writes { AnswersCall W.lender W.state (λ one. AddsLab one.id lab.now) tx.old tx.new result }
+    ensures writes { AnswersUnless (λ _. IsTooGreat lab.now.strays) W.lender W.state
+        (λ one. AddsLab one.id lab.now) tx.old tx.new result }
     // The database keeps its own rules then, whatever it did before:
     ensures rules { IsTrue (W.state tx.old).in_transaction → HasCleanDisk (W.state tx.new) →
         OnOk result (IsTyped (W.state tx.old).now → IsDatabase (W.state tx.new).now) }

@@ -1,6 +1,7 @@
 pub mod Writes
 pub mod Columns
 pub mod Inside
+pub mod Failing
 pub mod Placed
 pub mod LabWrites
 pub mod Lookups

@@ -1,5 +1,5 @@
 -- A row more whose id is wanted: the connection tells it, and it is the next one.
-use Rattle.std.proofs.Common.{◌≡◌, ℕ, ℤ, List, Result, Ok, IfOk, IsTrue, ◌∙◌, subst}
+use Rattle.std.proofs.Common.{◌≡◌, ◌⊎◌, inr, ℕ, ℤ, List, Result, Ok, Err, IfOk, IfErr, IsTrue, ◌∙◌, subst}
 use Rattle.sqlite_value.specs.Order.{Row}
 use Rattle.sqlite.specs.declared.error.Error.{Error}
 use Rattle.sqlite.specs.State.{State, HasCleanDisk, Executes, ExecutesInside}
@@ -9,6 +9,7 @@ use Rattle.lab_store_tables.specs.Held.{IsTyped}
 use Rattle.lab_store_tables.specs.Ready.{tables_of}
 use Rattle.lab_store_write.specs.declared.statements.RowId.{RowId}
 use Rattle.lab_store_write.specs.Calls.{Stays, AnswersCall}
+use Rattle.lab_store_write.specs.Causes.{FailsBy}
 use Rattle.lab_store_write.proofs.Inside.{Wrote}
 
 module _ {T : Type 0} {lender : T → ℕ × ℕ} {state : T → State} {old new : T} where
@@ -18,8 +19,10 @@ module _ {T : Type 0} {lender : T → ℕ × ℕ} {state : T → State} {old new
       → IfOk r (λ one. (count : ℕ) × ExecutesInside 0 sql given (state old) (state new) (Ok count) × (one.id ≡ (state new).last_rowid)))
       → ((count : ℕ) → IsTyped (state old).now → Executes sql params (state old) (state new) (Ok count)
       → Wrote (made (tables_of (state old))) (state new).now × ((state new).last_rowid ≡ next (tables_of (state old))))
+      → (IsTrue (state old).in_transaction → HasCleanDisk (state new) → IfErr r (FailsBy state old new))
       → AnswersCall lender state (λ (one : RowId) before after. (one.id ≡ next before) × (after ≡ made before)) old new r
-  placed sql params made next {given} {r} stays same ran wrote = record {
+  placed sql params made next {given} {r} stays same ran wrote fails = record {
+    failed = λ inside clean typed. badly r (fails inside clean);
     stays = stays;
     made = λ inside clean. if_then r (λ one it.
         let told : ExecutesInside 0 sql params (state old) (state new) (Ok it.0) =
@@ -30,3 +33,7 @@ module _ {T : Type 0} {lender : T → ℕ × ℕ} {state : T → State} {old new
           sound = λ typed _. (wrote it.0 typed told.0).0.sound;
         }) (ran inside clean);
   }
+    where
+      badly : (r : Result RowId Error) → IfErr r (FailsBy state old new) → IfErr r (λ e. ⊥ ⊎ FailsBy state old new e)
+      badly (Ok one) bad = tt
+      badly (Err e) bad = inr bad

@@ -1,7 +1,7 @@
 -- Calls inside a transaction, of what they are made: a statement, a look-up, and one call after another.
-use Rattle.std.proofs.Common.{◌≡◌, ◌⊎◌, inl, ℕ, ℤ, ◌+◌, ◌<◌, ◌≤◌, List, [], ◌∷◌, take, get_or, length, IsTrue, Result, Ok, Err, IfOk, IfErr, refl, ap, ◌∙◌, subst, arith}
+use Rattle.std.proofs.Common.{◌≡◌, ◌⊎◌, inl, inr, ℕ, ℤ, ◌+◌, ◌<◌, ◌≤◌, List, [], ◌∷◌, take, get_or, length, IsTrue, Result, Ok, Err, IfOk, IfErr, refl, sym, ap, ◌∙◌, subst, arith}
 use Rattle.std.proofs.lemmas.List.{take_all}
-use Rattle.std.specs.Prelude.{Vec}
+use Rattle.std.specs.Prelude.{Vec, IsErrAnd}
 use Rattle.std.specs.declared.alloc.Global.{Global}
 use Rattle.sqlite_value.specs.declared.value.Value.TheVariants.{Int}
 use Rattle.sqlite_value.specs.Order.{Row}
@@ -13,29 +13,36 @@ use Rattle.lab_store_tables.specs.Changes.{InTurn}
 use Rattle.lab_store_tables.specs.Held.{IsTyped}
 use Rattle.lab_store_tables.specs.Ready.{tables_of}
 use Rattle.lab_store_read.proofs.Queries.{IsRead, if_then}
-use Rattle.lab_store_write.specs.Calls.{Steps, Stays, AnswersCall, Writes, Becomes, Finds, MadeFrom, CountsBelow}
+use Rattle.lab_store_write.specs.Calls.{Steps, Stays, AnswersUnless, AnswersCall, Writes, Becomes, Finds, MadeFrom, CountsBelow}
+use Rattle.lab_store_write.specs.Causes.{IsVain, IsShown, IsRun, FailsBy}
+use Rattle.lab_store_write.proofs.Failing.{unmoved, passed, fails_here, ran_badly, asked_badly, fails_behind}
 use Rattle.lab_store_write.proofs.Inside.{Wrote, made_as, steps_weaker, found_then, known_then, keeps_then, none_then, turns_none, turns_more}
 use Rattle.lab_store_write.proofs.Lookups.{looked, looked_keeps}
 
-module _ {T : Type 0} {lender : T → ℕ × ℕ} {state : T → State} {old new : T} where
+module _ {T : Type 0} {lender : T → ℕ × ℕ} {state : T → State} {Beside : Error → Type 0} {old new : T} where
   -- ---- a statement
 
   -- that makes a step, by the number of rows that it returns; its parameters are given in other words
   pub wrote_as : (sql : List ℕ) (params : Row) (step : ℕ → Tables → Tables → Type 0) {given : Row} {r : Result ℕ Error} → Stays lender state old new → given ≡ params
       → (IsTrue (state old).in_transaction → HasCleanDisk (state new) → ExecutesInside 0 sql given (state old) (state new) r)
       → ((count : ℕ) → IsTyped (state old).now → Executes sql params (state old) (state new) (Ok count) → (t : Tables) × Wrote t (state new).now × step count (tables_of (state old)) t)
-      → AnswersCall lender state step old new r
+      → AnswersUnless Beside lender state step old new r
   wrote_as sql params step {given} {r} stays same ran makes = record {
     stays = stays;
     made = λ inside clean. made_as sql params (state old) (state new) step r
         (subst (λ (row : Row). ExecutesInside 0 sql row (state old) (state new) r) same (ran inside clean)) makes;
+    failed = λ inside clean typed. badly r (ran inside clean);
   }
+    where
+      badly : (r : Result ℕ Error) → ExecutesInside 0 sql given (state old) (state new) r → IfErr r (λ e. Beside e ⊎ FailsBy state old new e)
+      badly (Ok count) did = tt
+      badly (Err e) did = inr (ran_badly state sql given old new e did)
 
   -- that makes these tables
   pub wrote : (sql : List ℕ) (params : Row) (made : Tables → Tables) {given : Row} {r : Result ℕ Error} → Stays lender state old new → given ≡ params
       → (IsTrue (state old).in_transaction → HasCleanDisk (state new) → ExecutesInside 0 sql given (state old) (state new) r)
       → ((count : ℕ) → IsTyped (state old).now → Executes sql params (state old) (state new) (Ok count) → Wrote (made (tables_of (state old))) (state new).now)
-      → Writes lender state (Becomes made) old new r
+      → AnswersUnless Beside lender state (λ _. Becomes made) old new r
   wrote sql params made stays same ran makes =
       wrote_as sql params (λ _. Becomes made) stays same ran (λ count typed did. (made (tables_of (state old)), makes count typed did, refl))
 
@@ -47,7 +54,7 @@ module _ {T : Type 0} {lender : T → ℕ × ℕ} {state : T → State} {old new
       → (HasCleanDisk (state new) → IfOk r (λ rows. Shown sql given (state old) (state new) rows.items))
       → (HasCleanDisk (state new) → IfErr r (λ e. FailsToQuery sql given (state old) (state new) e ⊎ IsTooLate sql given (state old) (state new) e))
       → ((rows : List Row) → IsTyped (state old).now → Shown sql params (state old) (state new) rows → rows ≡ answer (tables_of (state old)))
-      → AnswersCall lender state (λ (rows : Vec Row Global). Finds (λ t. rows.items ≡ answer t)) old new r
+      → AnswersUnless Beside lender state (λ (rows : Vec Row Global). Finds (λ t. rows.items ≡ answer t)) old new r
   rows_found sql read params answer {given} {r} is same survives ok err exact =
       let before : HasCleanDisk (state new) → HasCleanDisk (state old) = λ clean. omega (arith, survives.clean) in
       record {
@@ -58,21 +65,33 @@ module _ {T : Type 0} {lender : T → ℕ × ℕ} {state : T → State} {old new
         };
         made = λ inside clean. looked sql read params (state old) (state new) before r answer inside exact
             (subst (λ (row : Row). IfOk r (λ rows. Shown sql row (state old) (state new) rows.items)) is (ok clean));
+        failed = λ inside clean typed. badly r (err clean);
       }
+    where
+      badly : (r : Result (Vec Row Global) Error) → IfErr r (λ e. FailsToQuery sql given (state old) (state new) e ⊎ IsTooLate sql given (state old) (state new) e)
+          → IfErr r (λ e. Beside e ⊎ FailsBy state old new e)
+      badly (Ok rows) err = tt
+      badly (Err e) err = inr (asked_badly state sql given old new e err)
 
   -- one more than the rows that the tables show
   pub place_found : {sql : List ℕ} {parent : ℤ} → IsRead (first sql) → (answer : Tables → List Row) (count : Tables → ℕ) {r : Result ℕ Error}
       → CountsBelow lender state sql parent old new r
       → ((rows : List Row) → IsTyped (state old).now → Shown sql (Int parent ∷ []) (state old) (state new) rows → rows ≡ answer (tables_of (state old)))
       → ((t : Tables) → length (answer t) ≡ count t)
-      → AnswersCall lender state (λ (place : ℕ). Finds (λ t. place ≡ count t + 1)) old new r
+      → AnswersUnless Beside lender state (λ (place : ℕ). Finds (λ t. place ≡ count t + 1)) old new r
   place_found {sql} {parent} read answer count {r} it exact counts = record {
     stays = record { same_lender = it.same_lender; survives = it.survives; kept = λ inside clean. keeps r (it.ok clean) (it.err clean) };
     made = λ inside clean. makes inside r (it.ok clean);
+    failed = λ inside clean typed. badly r (it.err clean);
   }
     where
       before : HasCleanDisk (state new) → HasCleanDisk (state old)
       before clean = let s = it.survives in omega (arith, s.clean)
+
+      badly : (r : Result ℕ Error) → IfErr r (λ e. FailsToQuery sql (Int parent ∷ []) (state old) (state new) e ⊎ IsTooLate sql (Int parent ∷ []) (state old) (state new) e)
+          → IfErr r (λ e. Beside e ⊎ FailsBy state old new e)
+      badly (Ok place) err = tt
+      badly (Err e) err = inr (asked_badly state sql (Int parent ∷ []) old new e err)
 
       keeps : (r : Result ℕ Error) → IfOk r (λ place. (rows : Vec Row Global) × Shown sql (Int parent ∷ []) (state old) (state new) rows.items × (place ≡ length rows.items + 1))
           → IfErr r (λ e. FailsToQuery sql (Int parent ∷ []) (state old) (state new) e ⊎ IsTooLate sql (Int parent ∷ []) (state old) (state new) e)
@@ -92,9 +111,30 @@ module _ {T : Type 0} {lender : T → ℕ × ℕ} {state : T → State} {old new
   -- ---- a call
 
   -- the step in other words
-  pub answers_as : {A E : Type 0} {P Q : A → Tables → Tables → Type 0} {r : Result A E} → AnswersCall lender state P old new r
-      → ((x : A) → Steps (P x) (state old) (state new) → Steps (Q x) (state old) (state new)) → AnswersCall lender state Q old new r
-  answers_as {r = r} it f = record { stays = it.stays; made = λ inside clean. if_then r f (it.made inside clean) }
+  pub answers_as : {A : Type 0} {P Q : A → Tables → Tables → Type 0} {r : Result A Error} → AnswersUnless Beside lender state P old new r
+      → ((x : A) → Steps (P x) (state old) (state new) → Steps (Q x) (state old) (state new)) → AnswersUnless Beside lender state Q old new r
+  answers_as {r = r} it f = record { stays = it.stays; made = λ inside clean. if_then r f (it.made inside clean); failed = it.failed }
+
+-- the rows of a look-up, as it shows them
+pub shown_rows : (old new : State) (sql : List ℕ) (params : Row) (r : Result (Vec Row Global) Error) → (HasCleanDisk new → IfOk r (λ rows. Shown sql params old new rows.items))
+    → HasCleanDisk new → IfOk r (λ rows. IsShown old new rows.items)
+shown_rows old new sql params r ok clean = if_then r (λ rows shown. record { sql = sql; params = params; shown = shown }) (ok clean)
+
+-- how many rows a statement has written
+pub ran_so : (old new : State) (sql : List ℕ) (params : Row) (r : Result ℕ Error) → ExecutesInside 0 sql params old new r → IfOk r (IsRun old new)
+ran_so old new sql params (Ok count) ran = record { sql = sql; params = params; ran = ran }
+ran_so old new sql params (Err e) ran = tt
+
+-- a statement that was refused, and that is passed on
+pub run_fails : {T A : Type 0} {lender : T → ℕ × ℕ} {state : T → State} {Beside : Error → Type 0} {step : A → Tables → Tables → Type 0} {a b : T} {e : Error} (sql : List ℕ) (params : Row)
+    → Stays lender state a b → (IsTrue (state a).in_transaction → HasCleanDisk (state b) → ExecutesInside 0 sql params (state a) (state b) (Err e))
+    → (r : Result A Error) → IsErrAnd r (λ d. d ≡ e) → AnswersUnless Beside lender state step a b r
+run_fails sql params stays ran (Ok x) failed = absurd failed
+run_fails {state = state} {Beside = Beside} {a = a} {b = b} {e = e} sql params stays ran (Err d) failed = record {
+  stays = stays;
+  made = λ inside clean. tt;
+  failed = λ inside clean typed. subst (λ (d : Error). Beside d ⊎ FailsBy state a b d) (sym failed) (inr (ran_badly state sql params a b e (ran inside clean)));
+}
 
 -- ---- no call
 
@@ -102,22 +142,23 @@ module _ {T : Type 0} {lender : T → ℕ × ℕ} {state : T → State} (a : T) 
   pub nothing_done : Stays lender state a a
   nothing_done = record {
     same_lender = refl;
-    survives = record {
-      clean = omega arith;
-      shield = λ h. h;
-      counts = omega arith;
-      limit = refl;
-      closes = λ _ opened. inl opened;
-      crash = λ _ db left. inl left;
-    };
+    survives = unmoved (state a);
     kept = λ inside clean. record { was_open = λ opened. opened; committed = λ _. refl };
   }
 
-  -- a step that takes nothing
-  pub nothing_asked : {A E : Type 0} {step : A → Tables → Tables → Type 0} {r : Result A E}
-      → (IsTrue (state a).in_transaction → IfOk r (λ one. Steps (step one) (state a) (state a)))
-      → AnswersCall lender state step a a r
-  nothing_asked f = record { stays = nothing_done; made = λ inside clean. f inside }
+  module _ {Beside : Error → Type 0} {A : Type 0} {step : A → Tables → Tables → Type 0} where
+    -- a step that takes nothing
+    pub nothing_asked : {x : A} → (IsTrue (state a).in_transaction → Steps (step x) (state a) (state a)) → AnswersUnless Beside lender state step a a (Ok x)
+    nothing_asked f = record { stays = nothing_done; made = λ inside clean. f inside; failed = λ inside clean typed. tt }
+
+    -- a failure before any call
+    pub not_asked : {e : Error} → Beside e ⊎ FailsBy state a a e → (r : Result A Error) → IsErrAnd r (λ d. d ≡ e) → AnswersUnless Beside lender state step a a r
+    not_asked why (Ok x) failed = absurd failed
+    not_asked why (Err d) failed = record {
+      stays = nothing_done;
+      made = λ inside clean. tt;
+      failed = λ inside clean typed. subst (λ (d : Error). Beside d ⊎ FailsBy state a a d) (sym failed) why;
+    }
 
 -- ---- one call and then another
 
@@ -136,99 +177,233 @@ module _ {T : Type 0} {lender : T → ℕ × ℕ} {state : T → State} {a b c :
         keeps_then (state a) (state b) (state c) (p.kept inside early) (q.kept (on inside early) clean);
   }
 
-module _ {T A E : Type 0} {lender : T → ℕ × ℕ} {state : T → State} {P : A → Tables → Tables → Type 0} {a b : T} {x : A}
-    (p : AnswersCall {E = E} lender state P a b (Ok x)) where
+-- the failure of a call is that of one that passes it on
+module _ {T A : Type 0} {lender : T → ℕ × ℕ} {state : T → State} {Beside : Error → Type 0} {P : A → Tables → Tables → Type 0} {a b : T} {e : Error}
+    (p : AnswersUnless Beside lender state P a b (Err e)) where
+  pub fails_so : {B : Type 0} {Q : B → Tables → Tables → Type 0} (r : Result B Error) → IsErrAnd r (λ d. d ≡ e) → AnswersUnless Beside lender state Q a b r
+  fails_so (Ok x) failed = absurd failed
+  fails_so (Err d) failed = record {
+    stays = p.stays;
+    made = λ inside clean. tt;
+    failed = λ inside clean typed. subst (λ (d : Error). Beside d ⊎ FailsBy state a b d) (sym failed) (p.failed inside clean typed);
+  }
+
+module _ {T A : Type 0} {lender : T → ℕ × ℕ} {state : T → State} {Kept : Error → Type 0} {P : A → Tables → Tables → Type 0} {a b : T} {x : A}
+    (p : AnswersUnless Kept lender state P a b (Ok x)) where
   -- what is made of an answer
-  pub and_so : {B F : Type 0} {Q : B → Tables → Tables → Type 0} {r : Result B F}
-      → (Steps (P x) (state a) (state b) → IfOk r (λ y. Steps (Q y) (state a) (state b))) → AnswersCall lender state Q a b r
-  and_so f = record { stays = p.stays; made = λ inside clean. f (p.made inside clean) }
+  pub and_so : {Beside : Error → Type 0} {B : Type 0} {Q : B → Tables → Tables → Type 0} {y : B}
+      → (Steps (P x) (state a) (state b) → Steps (Q y) (state a) (state b)) → AnswersUnless Beside lender state Q a b (Ok y)
+  and_so f = record { stays = p.stays; made = λ inside clean. f (p.made inside clean); failed = λ inside clean typed. tt }
 
   -- the step in other words
   pub as_step : {Q : Tables → Tables → Type 0} → (Steps (P x) (state a) (state b) → Steps Q (state a) (state b))
-      → Writes {E = E} lender state Q a b (Ok x)
+      → Writes lender state Q a b (Ok x)
   as_step f = and_so f
 
+  -- a failure behind it, without another call
+  pub fails_after : {Beside : Error → Type 0} {C : Type 0} {R : C → Tables → Tables → Type 0} {e : Error}
+      → (IsTrue (state a).in_transaction → HasCleanDisk (state b) → IsTyped (state a).now → Beside e ⊎ FailsBy state a b e)
+      → (r : Result C Error) → IsErrAnd r (λ d. d ≡ e) → AnswersUnless Beside lender state R a b r
+  fails_after why (Ok z) failed = absurd failed
+  fails_after {Beside} why (Err d) failed = record {
+    stays = p.stays;
+    made = λ inside clean. tt;
+    failed = λ inside clean typed. subst (λ (d : Error). Beside d ⊎ FailsBy state a b d) (sym failed) (why inside clean typed);
+  }
+
   -- another call after it, however that ends
-  module _ {B F : Type 0} {Q : B → Tables → Tables → Type 0} {c : T} {s : Result B F} (q : AnswersCall lender state Q b c s) where
+  module _ {Beside : Error → Type 0} {B : Type 0} {Q : B → Tables → Tables → Type 0} {c : T} {s : Result B Error} (q : AnswersUnless Beside lender state Q b c s) where
     stays_both : Stays lender state a c
     stays_both = stays_then p.stays (λ inside clean. (p.made inside clean).inside) q.stays
 
-    pub and_then : {C G : Type 0} {R : C → Tables → Tables → Type 0} {r : Result C G}
-        → (Steps (P x) (state a) (state b) → IfOk s (λ y. Steps (Q y) (state b) (state c)) → IfOk r (λ z. Steps (R z) (state a) (state c)))
-        → AnswersCall lender state R a c r
-    and_then f = record {
+    both_fail : IsTrue (state a).in_transaction → HasCleanDisk (state c) → IsTyped (state a).now → IfErr s (λ e. Beside e ⊎ FailsBy state a c e)
+    both_fail inside clean typed =
+        let one = p.made inside (clean_before q.stays clean) in
+        behind s (q.failed one.inside clean (one.made typed).0)
+      where
+        behind : (s : Result B Error) → IfErr s (λ e. Beside e ⊎ FailsBy state b c e) → IfErr s (λ e. Beside e ⊎ FailsBy state a c e)
+        behind (Ok y) bad = tt
+        behind (Err e) (inl beside) = inl beside
+        behind (Err e) (inr it) = inr (fails_behind state a b c e p.stays.survives it)
+
+    -- and the answer is the other's
+    pub and_its : {R : B → Tables → Tables → Type 0}
+        → (Steps (P x) (state a) (state b) → IfOk s (λ y. Steps (Q y) (state b) (state c)) → IfOk s (λ z. Steps (R z) (state a) (state c)))
+        → AnswersUnless Beside lender state R a c s
+    and_its f = record {
       stays = stays_both;
       made = λ inside clean. let one = p.made inside (clean_before q.stays clean) in f one (q.made one.inside clean);
+      failed = both_fail;
     }
 
-  -- two more
-  module _ {B F : Type 0} {Q : B → Tables → Tables → Type 0} {c : T} {y : B} (q : AnswersCall {E = F} lender state Q b c (Ok y)) where
+  -- it fails
+  pub then_fails : {Beside : Error → Type 0} {B C : Type 0} {Q : B → Tables → Tables → Type 0} {R : C → Tables → Tables → Type 0} {c : T} {e : Error}
+      → AnswersUnless Beside lender state Q b c (Err e) → (r : Result C Error) → IsErrAnd r (λ d. d ≡ e) → AnswersUnless Beside lender state R a c r
+  then_fails q (Ok z) failed = absurd failed
+  then_fails {Beside} {c = c} q (Err d) failed = record {
+    stays = stays_both q;
+    made = λ inside clean. tt;
+    failed = λ inside clean typed. subst (λ (d : Error). Beside d ⊎ FailsBy state a c d) (sym failed) (both_fail q inside clean typed);
+  }
+
+  -- it answers, and so do both
+  module _ {Other : Error → Type 0} {B : Type 0} {Q : B → Tables → Tables → Type 0} {c : T} {y : B} (q : AnswersUnless Other lender state Q b c (Ok y)) where
+    pub and_then : {Beside : Error → Type 0} {C : Type 0} {R : C → Tables → Tables → Type 0} {z : C}
+        → (Steps (P x) (state a) (state b) → Steps (Q y) (state b) (state c) → Steps (R z) (state a) (state c))
+        → AnswersUnless Beside lender state R a c (Ok z)
+    and_then f = record {
+      stays = stays_both q;
+      made = λ inside clean. let one = p.made inside (clean_before q.stays clean) in f one (q.made one.inside clean);
+      failed = λ inside clean typed. tt;
+    }
+
+    -- both as one
+    both : AnswersCall lender state (λ (_ : Unit {0}) before after. Unit {0}) a c (Ok tt)
+    both = and_then (λ one two. record { inside = two.inside; made = λ typed. ((two.made (one.made typed).0).0, tt); sound = λ typed rules. two.sound (one.made typed).0 (one.sound typed rules) })
+
     on_both : IsTrue (state a).in_transaction → HasCleanDisk (state c) → Steps (P x) (state a) (state b) × Steps (Q y) (state b) (state c)
     on_both inside clean = let one = p.made inside (clean_before q.stays clean) in (one, q.made one.inside clean)
 
-    module _ {C G : Type 0} {R : C → Tables → Tables → Type 0} {d : T} {s : Result C G} (t : AnswersCall lender state R c d s) where
+    module _ {Last : Error → Type 0} {C : Type 0} {R : C → Tables → Tables → Type 0} {d : T} {z : C} (t : AnswersUnless Last lender state R c d (Ok z)) where
       stays_three : Stays lender state a d
       stays_three = stays_then (stays_both q) (λ inside clean. (on_both inside clean).1.inside) t.stays
 
       -- by what holds before it, too
-      pub and_two_by : {D H : Type 0} {S : D → Tables → Tables → Type 0} {r : Result D H}
+      pub and_two_by : {Beside : Error → Type 0} {D : Type 0} {S : D → Tables → Tables → Type 0} {w : D}
           → (IsTrue (state a).in_transaction → HasCleanDisk (state b) → Steps (P x) (state a) (state b) → Steps (Q y) (state b) (state c)
-          → IfOk s (λ z. Steps (R z) (state c) (state d)) → IfOk r (λ w. Steps (S w) (state a) (state d)))
-          → AnswersCall lender state S a d r
+          → Steps (R z) (state c) (state d) → Steps (S w) (state a) (state d))
+          → AnswersUnless Beside lender state S a d (Ok w)
       and_two_by f = record {
         stays = stays_three;
         made = λ inside clean.
             let late = clean_before t.stays clean in
             let two = on_both inside late in
             f inside (clean_before q.stays late) two.0 two.1 (t.made two.1.inside clean);
+        failed = λ inside clean typed. tt;
       }
 
-      pub and_two : {D H : Type 0} {S : D → Tables → Tables → Type 0} {r : Result D H}
-          → (Steps (P x) (state a) (state b) → Steps (Q y) (state b) (state c) → IfOk s (λ z. Steps (R z) (state c) (state d))
-          → IfOk r (λ w. Steps (S w) (state a) (state d)))
-          → AnswersCall lender state S a d r
+      pub and_two : {Beside : Error → Type 0} {D : Type 0} {S : D → Tables → Tables → Type 0} {w : D}
+          → (Steps (P x) (state a) (state b) → Steps (Q y) (state b) (state c) → Steps (R z) (state c) (state d) → Steps (S w) (state a) (state d))
+          → AnswersUnless Beside lender state S a d (Ok w)
       and_two f = and_two_by (λ _ _. f)
 
     -- three more
-    module _ {C G : Type 0} {R : C → Tables → Tables → Type 0} {d : T} {z : C} (t : AnswersCall {E = G} lender state R c d (Ok z)) where
-      pub and_three : {D H I J : Type 0} {S : D → Tables → Tables → Type 0} {U : I → Tables → Tables → Type 0} {e : T} {s : Result D H} {r : Result I J}
-          → AnswersCall lender state S d e s
+    module _ {Last : Error → Type 0} {C : Type 0} {R : C → Tables → Tables → Type 0} {d : T} {z : C} (t : AnswersUnless Last lender state R c d (Ok z)) where
+      pub and_three : {Final Beside : Error → Type 0} {D I : Type 0} {S : D → Tables → Tables → Type 0} {U : I → Tables → Tables → Type 0} {e : T} {w : D} {v : I}
+          → AnswersUnless Final lender state S d e (Ok w)
           → (Steps (P x) (state a) (state b) → Steps (Q y) (state b) (state c) → Steps (R z) (state c) (state d)
-          → IfOk s (λ w. Steps (S w) (state d) (state e)) → IfOk r (λ v. Steps (U v) (state a) (state e)))
-          → AnswersCall lender state U a e r
+          → Steps (S w) (state d) (state e) → Steps (U v) (state a) (state e))
+          → AnswersUnless Beside lender state U a e (Ok v)
       and_three u f = record {
         stays = stays_then (stays_three t) (λ inside clean. (on_three inside clean).2.inside) u.stays;
         made = λ inside clean. let three = on_three inside (clean_before u.stays clean) in f three.0 three.1 three.2 (u.made three.2.inside clean);
+        failed = λ inside clean typed. tt;
       }
         where
           on_three : IsTrue (state a).in_transaction → HasCleanDisk (state d)
               → Steps (P x) (state a) (state b) × Steps (Q y) (state b) (state c) × Steps (R z) (state c) (state d)
           on_three inside clean = let two = on_both inside (clean_before t.stays clean) in (two.0, two.1, t.made two.1.inside clean)
 
+-- the third call fails, or the fourth
+module _ {T A B : Type 0} {lender : T → ℕ × ℕ} {state : T → State} {First Second : Error → Type 0} {P : A → Tables → Tables → Type 0} {Q : B → Tables → Tables → Type 0} {a b c : T}
+    {x : A} {y : B} (p : AnswersUnless First lender state P a b (Ok x)) (q : AnswersUnless Second lender state Q b c (Ok y)) where
+  module _ {C : Type 0} {R : C → Tables → Tables → Type 0} {d : T} where
+    pub then_third_fails : {Beside : Error → Type 0} {D : Type 0} {S : D → Tables → Tables → Type 0} {e : Error}
+        → AnswersUnless Beside lender state R c d (Err e) → (r : Result D Error) → IsErrAnd r (λ g. g ≡ e) → AnswersUnless Beside lender state S a d r
+    then_third_fails t r failed = then_fails (both p q) t r failed
+
+    pub then_fourth_fails : {Third Beside : Error → Type 0} {D I : Type 0} {S : D → Tables → Tables → Type 0} {U : I → Tables → Tables → Type 0} {f : T} {z : C} {e : Error}
+        → AnswersUnless Third lender state R c d (Ok z) → AnswersUnless Beside lender state S d f (Err e)
+        → (r : Result I Error) → IsErrAnd r (λ g. g ≡ e) → AnswersUnless Beside lender state U a f r
+    then_fourth_fails t u r failed = then_fails (both (both p q) t) u r failed
+
+    -- or the answer is that of the third, by what holds before it, too
+    pub two_and_its : {Beside : Error → Type 0} {S : C → Tables → Tables → Type 0} {s : Result C Error} → AnswersUnless Beside lender state R c d s
+        → (IsTrue (state a).in_transaction → HasCleanDisk (state b) → Steps (P x) (state a) (state b) → Steps (Q y) (state b) (state c)
+        → IfOk s (λ z. Steps (R z) (state c) (state d)) → IfOk s (λ w. Steps (S w) (state a) (state d)))
+        → AnswersUnless Beside lender state S a d s
+    two_and_its t f = record {
+      stays = stays_both (both p q) t;
+      made = λ inside clean.
+          let late = clean_before t.stays clean in
+          let two = on_both p q inside late in
+          f inside (clean_before q.stays late) two.0 two.1 (t.made two.1.inside clean);
+      failed = both_fail (both p q) t;
+    }
+
+-- ---- a row that is named by what a look-up shows
+
+module _ {T : Type 0} {lender : T → ℕ × ℕ} {state : T → State} {Kept : Error → Type 0} {answer : Tables → List Row} {a b : T} {rows : Vec Row Global}
+    (p : AnswersUnless Kept lender state (λ (rows : Vec Row Global). Finds (λ t. rows.items ≡ answer t)) a b (Ok rows)) where
+  pub and_named : {Beside : Error → Type 0} {B : Type 0} {Q : B → Tables → Tables → Type 0} {r : Result B Error}
+      → (HasCleanDisk (state b) → IsShown (state a) (state b) rows.items)
+      → (Steps (Finds (λ t. rows.items ≡ answer t)) (state a) (state b) → IfOk r (λ y. Steps (Q y) (state a) (state b)))
+      → ((t : Tables) → rows.items ≡ answer t → IfErr r (IsVain rows.items))
+      → AnswersUnless Beside lender state Q a b r
+  and_named {Beside} {r = r} shown f vain = record {
+    stays = p.stays;
+    made = λ inside clean. f (p.made inside clean);
+    failed = λ inside clean typed. badly r (shown clean) (vain (tables_of (state a)) ((p.made inside clean).made typed).1.0);
+  }
+    where
+      badly : {B : Type 0} (r : Result B Error) → IsShown (state a) (state b) rows.items → IfErr r (IsVain rows.items) → IfErr r (λ e. Beside e ⊎ FailsBy state a b e)
+      badly (Ok y) it bad = tt
+      badly (Err e) it (inl memory) = inr (inl memory)
+      badly (Err e) it (inr none) = inr (fails_here state a b e (inr (record { told = none.0; vain = inr (rows.items, it, none.1) })))
+
+  -- a call after it fails, but not for what the rows rule out
+  pub then_fails_apart : {Bad : Type 0} {Beside : Error → Type 0} {B C : Type 0} {Q : B → Tables → Tables → Type 0} {R : C → Tables → Tables → Type 0} {c : T} {e : Error}
+      → AnswersUnless (λ _. Bad) lender state Q b c (Err e) → ((t : Tables) → rows.items ≡ answer t → ¬ Bad)
+      → (r : Result C Error) → IsErrAnd r (λ d. d ≡ e) → AnswersUnless Beside lender state R a c r
+  then_fails_apart q apart (Ok z) failed = absurd failed
+  then_fails_apart {Bad} {Beside} {c = c} {e = e} q apart (Err d) failed = record {
+    stays = stays_then p.stays (λ inside clean. (p.made inside clean).inside) q.stays;
+    made = λ inside clean. tt;
+    failed = λ inside clean typed.
+        let one = p.made inside (clean_before q.stays clean) in
+        let found = one.made typed in
+        subst (λ (d : Error). Beside d ⊎ FailsBy state a c d) (sym failed) (go (apart (tables_of (state a)) found.1.0) (q.failed one.inside clean found.0));
+  }
+    where
+      go : ¬ Bad → Bad ⊎ FailsBy state b c e → Beside e ⊎ FailsBy state a c e
+      go none (inl bad) = absurd (none bad)
+      go none (inr it) = inr (fails_behind state a b c e p.stays.survives it)
+
+-- nothing is told beside its causes
+pub beside_none : {T A : Type 0} {lender : T → ℕ × ℕ} {state : T → State} {Beside : Error → Type 0} {P : A → Tables → Tables → Type 0} {a b : T} {r : Result A Error}
+    → AnswersCall lender state P a b r → AnswersUnless Beside lender state P a b r
+beside_none {state = state} {Beside = Beside} {a = a} {b = b} {r = r} it = record { stays = it.stays; made = it.made; failed = λ inside clean typed. go r (it.failed inside clean typed) }
+  where
+    go : {A : Type 0} (r : Result A Error) → IfErr r (λ e. ⊥ ⊎ FailsBy state a b e) → IfErr r (λ e. Beside e ⊎ FailsBy state a b e)
+    go (Ok x) bad = tt
+    go (Err e) (inl none) = absurd none
+    go (Err e) (inr why) = inr why
+
 -- ---- a look-up, and a step that is given what was found
 
-module _ {T A B E F : Type 0} {lender : T → ℕ × ℕ} {state : T → State} (N : A → Tables → Type 0) {step : Tables → Tables → Type 0} {a b c : T} {x : A}
-    {s : Result B F} where
-  pub and_given : AnswersCall {E = E} lender state (λ one. Finds (N one)) a b (Ok x) → Writes lender state (MadeFrom (N x) step) b c s → Writes lender state step a c s
-  and_given p q = and_then p q (λ found does. if_then s (λ _. found_then (N x) step (state a) (state b) (state c) found) does)
+module _ {T A B : Type 0} {lender : T → ℕ × ℕ} {state : T → State} {Kept Beside : Error → Type 0} (N : A → Tables → Type 0) {step : Tables → Tables → Type 0} {a b c : T} {x : A}
+    {s : Result B Error} where
+  pub and_given : AnswersUnless Kept lender state (λ one. Finds (N one)) a b (Ok x) → AnswersUnless Beside lender state (λ _. MadeFrom (N x) step) b c s
+      → AnswersUnless Beside lender state (λ _. step) a c s
+  and_given p q = and_its p q (λ found does. if_then s (λ _. found_then (N x) step (state a) (state b) (state c) found) does)
 
-  pub and_known : (K : Tables → Type 0) → AnswersCall {E = E} lender state (λ one. Finds (λ t. K t → N one t)) a b (Ok x)
-      → Writes lender state (MadeFrom (N x) step) b c s → Writes lender state (MadeFrom K step) a c s
-  and_known K p q = and_then p q (λ found does. if_then s (λ _. known_then K (N x) step (state a) (state b) (state c) found) does)
+  pub and_known : (K : Tables → Type 0) → AnswersUnless Kept lender state (λ one. Finds (λ t. K t → N one t)) a b (Ok x)
+      → AnswersUnless Beside lender state (λ _. MadeFrom (N x) step) b c s → AnswersUnless Beside lender state (λ _. MadeFrom K step) a c s
+  and_known K p q = and_its p q (λ found does. if_then s (λ _. known_then K (N x) step (state a) (state b) (state c) found) does)
 
 -- ---- calls in turn, for the items of a list
 
-module _ {T A B E : Type 0} {lender : T → ℕ × ℕ} {state : T → State} (step : A → Tables → Tables → Type 0) where
-  pub turns_begun : (a : T) (x : B) → Writes {E = E} lender state (InTurn step []) a a (Ok x)
+module _ {T A B : Type 0} {lender : T → ℕ × ℕ} {state : T → State} {Beside : Error → Type 0} (step : A → Tables → Tables → Type 0) where
+  pub turns_begun : (a : T) (x : B) → AnswersUnless Beside lender state (λ _. InTurn step []) a a (Ok x)
   turns_begun a x = nothing_asked a (λ inside. turns_none step (state a) inside)
 
-  module _ (xs : List A) (i : ℕ) {a b : T} {x : B} (p : Writes {E = E} lender state (InTurn step (take i xs)) a b (Ok x)) where
+  module _ (xs : List A) (i : ℕ) {a b : T} {x : B} {Kept : Error → Type 0} (p : AnswersUnless Kept lender state (λ (_ : B). InTurn step (take i xs)) a b (Ok x)) where
     -- one item more
-    pub turns_on : {C F : Type 0} {c : T} {y : C} (one : A) → one ≡ get_or xs i one → i < length xs → Writes {E = F} lender state (step one) b c (Ok y)
-        → Writes {E = E} lender state (InTurn step (take (i + 1) xs)) a c (Ok x)
+    pub turns_on : {Other : Error → Type 0} {C : Type 0} {c : T} {y : C} (one : A) → one ≡ get_or xs i one → i < length xs → AnswersUnless Other lender state (λ (_ : C). step one) b c (Ok y)
+        → AnswersUnless Beside lender state (λ (_ : B). InTurn step (take (i + 1) xs)) a c (Ok x)
     turns_on {c = c} one is within q =
         and_then p q (λ so_far more. turns_more step xs i one within (state a) (state b) (state c) so_far
         (subst (λ (k : A). Steps (step k) (state b) (state c)) is more))
 
-    pub turns_ended : length xs ≤ i → Writes {E = E} lender state (InTurn step xs) a b (Ok x)
+    pub turns_ended : length xs ≤ i → AnswersUnless Beside lender state (λ (_ : B). InTurn step xs) a b (Ok x)
     turns_ended all = and_so p (λ so_far. subst (λ (l : List A). Steps (InTurn step l) (state a) (state b)) (take_all i xs all) so_far)

@@ -12,6 +12,7 @@ use Rattle.sqlite.specs.State.{State, HasCleanDisk, KeepsCommit, Survives, Shown
 use Rattle.lab_store_tables.specs.Rows.{Tables}
 use Rattle.lab_store_tables.specs.Held.{IsTyped}
 use Rattle.lab_store_tables.specs.Ready.{IsMadeBy}
+use Rattle.lab_store_write.specs.Causes.{FailsBy}
 
 -- a call that ended well: the transaction goes on, the step is made, and a database that obeyed its
 -- own rules still does
@@ -30,18 +31,38 @@ pub record Stays {T : Type 0} (lender : T → ℕ × ℕ) (state : T → State) 
   pub kept : IsTrue (state old).in_transaction → HasCleanDisk (state new)
       → KeepsCommit (state old) (state new)
 
+-- a call inside a transaction, over tables of ours, fails for its causes alone, or for what is told
+-- beside them
+abbrev pub FailsFor : (Error → Type 0) → {T A : Type 0} → (T → State) → T → T → Result A Error
+    → Type 0
+FailsFor Beside state old new result =
+    IsTrue (state old).in_transaction → HasCleanDisk (state new) → IsTyped (state old).now
+    → IfErr result (λ e. Beside e ⊎ FailsBy state old new e)
+
 -- so does a call that answers; where a transaction was under way and it answered well, it made the
 -- step that belongs to the answer
-pub record AnswersCall {T A E : Type 0} (lender : T → ℕ × ℕ) (state : T → State)
-    (step : A → Tables → Tables → Type 0) (old new : T) (result : Result A E) : Type 0 where
+pub record AnswersUnless (Beside : Error → Type 0) {T A : Type 0} (lender : T → ℕ × ℕ)
+    (state : T → State) (step : A → Tables → Tables → Type 0) (old new : T)
+    (result : Result A Error) : Type 0 where
   pub stays : Stays lender state old new
   pub made : IsTrue (state old).in_transaction → HasCleanDisk (state new)
       → IfOk result (λ one. Steps (step one) (state old) (state new))
+  pub failed : FailsFor Beside state old new result
+
+abbrev pub AnswersCall : {T A : Type 0} → (T → ℕ × ℕ) → (T → State)
+    → (A → Tables → Tables → Type 0) → T → T → Result A Error → Type 0
+AnswersCall lender state step old new result =
+    AnswersUnless (λ _. ⊥) lender state step old new result
 
 -- a call that makes one step, whatever it answers
-abbrev pub Writes : {T A E : Type 0} → (T → ℕ × ℕ) → (T → State) → (Tables → Tables → Type 0)
-    → T → T → Result A E → Type 0
+abbrev pub Writes : {T A : Type 0} → (T → ℕ × ℕ) → (T → State) → (Tables → Tables → Type 0)
+    → T → T → Result A Error → Type 0
 Writes lender state step old new result = AnswersCall lender state (λ _. step) old new result
+
+abbrev pub WritesUnless : (Error → Type 0) → {T A : Type 0} → (T → ℕ × ℕ) → (T → State)
+    → (Tables → Tables → Type 0) → T → T → Result A Error → Type 0
+WritesUnless Beside lender state step old new result =
+    AnswersUnless Beside lender state (λ _. step) old new result
 
 -- a step that makes these tables of those before
 abbrev pub Becomes : (Tables → Tables) → Tables → Tables → Type 0

@@ -2,7 +2,8 @@
 
 ghost use Rattle.lab_records_kept.specs.declared.changes.Change.TheVariants.{Last, Strays};
 ghost use Rattle.lab_store_tables.specs.Changes.{AppliesIn};
-ghost use Rattle.lab_store_write.specs.Calls.{Writes};
+ghost use Rattle.lab_store_write.specs.Calls.{Writes, WritesUnless};
+ghost use Rattle.lab_store_write.specs.Causes.{IsTooGreat};
 
 use crate::statements::{RowId, run};
 use crate::values::{count_value, id_value, moment_value};
@@ -29,7 +30,8 @@ pub fn set_last<W: Writable>(tx: &mut W, lab: RowId, moment: Moment) -> Result<u
 /// # Errors
 /// The errors of `Writable`, or the number is too great for the store.
 pub fn set_strays<W: Writable>(tx: &mut W, lab: RowId, count: u64) -> Result<usize, Error>
-    ensures { Writes W.lender W.state (AppliesIn lab.id (Strays count)) tx.old tx.new result }
+    ensures { WritesUnless (λ _. IsTooGreat count) W.lender W.state
+        (AppliesIn lab.id (Strays count)) tx.old tx.new result }
 {
     let strays = count_value(count)?;
     run(

@@ -1,8 +1,10 @@
 //! The persons whom codes name, by the keys of the table of persons.
 
-ghost use Rattle.std.specs.Prelude.{◌≡◌, Some, option_map, slice_get, IfOk, IfSome};
+ghost use Rattle.std.specs.Prelude.{◌≡◌, Some, option_map, slice_get, IfOk, IfErr, IfSome};
+ghost use Rattle.sqlite.specs.State.{HasCleanDisk};
 ghost use Rattle.lab_store_tables.specs.Changes.{person_named, IsNamedIfAny};
 ghost use Rattle.lab_store_write.specs.Calls.{AnswersCall, Finds};
+ghost use Rattle.lab_store_write.specs.Causes.{IsShown, IsUnread, IsUnnamed};
 ghost use Rattle.lab_store_write.specs.Ids.{row_id, id_read};
 ghost use Rattle.lab_store_write.specs.Shown.{persons_shown};
 
@@ -17,7 +19,8 @@ use sqlite::{Error, Row};
 /// # Errors
 /// The store failed, or memory ran out.
 pub fn id_of(row: &Row) -> Result<RowId, Error>
-    ensures { IfOk result (λ one. one.id ≡ id_read row.now) }
+    ensures value { IfOk result (λ one. one.id ≡ id_read row.now) }
+    ensures fault { IfErr result (IsUnread row.now) }
 {
     let id = row.get(0)?;
     Ok(RowId { id })
@@ -28,7 +31,8 @@ pub fn id_of(row: &Row) -> Result<RowId, Error>
 /// # Errors
 /// The store failed, or memory ran out.
 pub fn first_id(rows: &[Row]) -> Result<RowId, Error>
-    ensures { IfOk result (λ one. option_map id_read (slice_get rows.now 0) ≡ Some one.id) }
+    ensures value { IfOk result (λ one. option_map id_read (slice_get rows.now 0) ≡ Some one.id) }
+    ensures fault { IfErr result (IsUnnamed rows.now) }
 {
     match rows.first() {
         Some(row) => Ok(id_of(row)?),
@@ -38,8 +42,10 @@ pub fn first_id(rows: &[Row]) -> Result<RowId, Error>
 
 // The rows of the person with the code, in the laboratory.
 fn person_rows<W: Writable>(tx: &mut W, lab: RowId, code: &str) -> Result<Vec<Row>, Error>
-    ensures { AnswersCall W.lender W.state
+    ensures found { AnswersCall W.lender W.state
         (λ rows. Finds (λ t. rows.items ≡ persons_shown lab.id code.now t)) tx.old tx.new result }
+    ensures shown { HasCleanDisk (W.state tx.new) →
+        IfOk result (λ rows. IsShown (W.state tx.old) (W.state tx.new) rows.items) }
 {
     tx.query_all(
         "SELECT id FROM persons WHERE lab = ?1 AND code = ?2 ORDER BY id",

@@ -1,7 +1,8 @@
 //! The place of a new row, after the rows that its parent has.
 
-ghost use Rattle.std.specs.Prelude.{◌≡◌, ◌+◌, length};
+ghost use Rattle.std.specs.Prelude.{◌≡◌, ◌+◌, length, IfOk};
 ghost use Rattle.lab_store_write.specs.Calls.{CountsBelow};
+ghost use Rattle.lab_store_write.specs.Causes.{IsTooGreat};
 
 use crate::statements::RowId;
 use crate::values::id_value;
@@ -10,7 +11,8 @@ use sqlite::{Error, Row};
 
 // The place after the rows that a parent has.
 fn place_behind(rows: &[Row]) -> u64
-    ensures { result ≡ length rows.now + 1 }
+    ensures value { result ≡ length rows.now + 1 }
+    ensures fits { ¬ IsTooGreat result }
 {
     rows.len() as u64 + 1
 }
@@ -21,7 +23,8 @@ fn place_behind(rows: &[Row]) -> u64
 /// # Errors
 /// The errors of `Writable::query_all`.
 pub fn place_below<W: Writable>(tx: &mut W, text: &str, parent: RowId) -> Result<u64, Error>
-    ensures { CountsBelow W.lender W.state text.now parent.id tx.old tx.new result }
+    ensures counts { CountsBelow W.lender W.state text.now parent.id tx.old tx.new result }
+    ensures fits { IfOk result (λ place. ¬ IsTooGreat place) }
 {
     match tx.query_all(text, &[id_value(parent)]) {
         Ok(rows) => Ok(place_behind(&rows)),

@@ -1,10 +1,11 @@
 //! The value that a statement gets for a column of each type.
 
-ghost use Rattle.std.specs.Prelude.{◌≡◌, option_map, IfOk};
+ghost use Rattle.std.specs.Prelude.{◌≡◌, option_map, IfOk, IfErr};
 ghost use Rattle.sqlite_value.specs.declared.value.Value.TheVariants.{Int, Text, Blob};
 ghost use Rattle.sqlite_value.specs.Value.{owned};
 ghost use Rattle.sqlite.specs.Values.{bound_value};
 ghost use Rattle.lab_store_tables.specs.Rows.{number, flag, optional};
+ghost use Rattle.lab_store_write.specs.Causes.{IsTooGreat};
 ghost use Rattle.lab_store_write.specs.Ids.{row_id};
 
 use crate::statements::RowId;
@@ -85,13 +86,22 @@ pub fn blob_value(bytes: &[u8]) -> ValueRef<'_>
     ValueRef::Blob(bytes)
 }
 
+/// Returns the value of a number that the store holds: one below 2^63.
+pub fn place_value<'a>(place: u64) -> ValueRef<'a>
+    requires { ¬ IsTooGreat place }
+    ensures { bound_value (owned result) ≡ number place }
+{
+    ValueRef::Int(place as i64)
+}
+
 /// Returns the value of a number that may be too great for the store, which holds numbers below
 /// 2^63.
 ///
 /// # Errors
-/// The store failed, or memory ran out.
+/// The number is too great.
 pub fn count_value<'a>(count: u64) -> Result<ValueRef<'a>, Error>
-    ensures { IfOk result (λ value. bound_value (owned value) ≡ number count) }
+    ensures value { IfOk result (λ value. bound_value (owned value) ≡ number count) }
+    ensures fault { IfErr result (λ _. IsTooGreat count) }
 {
     if count > 9_223_372_036_854_775_807 {
         return Err(Error::SqliteFailure(ErrorCode::TooBig));

@@ -1,3 +1,4 @@
+pub mod Failures
 pub mod AllRows
 pub mod KnownChanges
 pub mod KnownNewborns

@@ -1,3 +1,4 @@
+pub mod Causes
 pub mod Framed
 pub mod NewbornRows
 pub mod Newborns

@@ -7,7 +7,8 @@ ghost use Rattle.sqlite.specs.State.{HasCleanDisk};
 ghost use Rattle.lab_records_kept.specs.declared.changes.Change.TheVariants.{Last, Strays, SessionsClosed};
 ghost use Rattle.lab_store_tables.specs.Changes.{AppliesIn, InTurn};
 ghost use Rattle.lab_store_laws.specs.Steps.{AppliesWhereKept, StepsBy};
-ghost use Rattle.lab_store_write.specs.Calls.{Stays, Steps, Writes};
+ghost use Rattle.lab_store_write.specs.Calls.{Stays, Steps, Writes, WritesUnless, FailsFor};
+ghost use Rattle.lab_store_write_changes.specs.Causes.{IsTooMuch, OneIsTooMuch};
 ghost use Rattle.lab_store_write_changes.specs.Framed.{spares_lab, framed};
 
 use crate::framed::frame_of;
@@ -31,7 +32,8 @@ fn change_last<W: Writable>(tx: &mut W, lab: RowId, moment: Moment) -> Result<()
 
 // Sets how many passwords were given for no person's account.
 fn change_strays<W: Writable>(tx: &mut W, lab: RowId, count: u64) -> Result<(), Error>
-    ensures { Writes W.lender W.state (AppliesIn lab.id (Strays count)) tx.old tx.new result }
+    ensures { WritesUnless (λ _. IsTooMuch (Strays count)) W.lender W.state
+        (AppliesIn lab.id (Strays count)) tx.old tx.new result }
 {
     set_strays(tx, lab, count)?;
     Ok(())
@@ -55,7 +57,8 @@ fn change_sessions<W: Writable>(
 /// # Errors
 /// The store failed, or memory ran out.
 pub(crate) fn change_rows<W: Writable>(tx: &mut W, lab: RowId, change: &Change) -> Result<(), Error>
-    ensures { Writes W.lender W.state (AppliesWhereKept lab.id change.now) tx.old tx.new result }
+    ensures { WritesUnless (λ _. IsTooMuch change.now) W.lender W.state
+        (AppliesWhereKept lab.id change.now) tx.old tx.new result }
 {
     match change {
         Change::Last(moment) => change_last(tx, lab, *moment),
@@ -87,6 +90,7 @@ fn each_inside<W: Writable>(tx: &mut W, lab: RowId, changes: &[Change]) -> Resul
     ensures made { IsTrue (W.state tx.old).in_transaction → HasCleanDisk (W.state tx.new) →
         OnOk result (IsDatabase (W.state tx.old).now →
         Steps (InTurn (StepsBy lab.id) changes.now) (W.state tx.old) (W.state tx.new)) }
+    ensures failed { FailsFor (λ _. OneIsTooMuch changes.now) W.state tx.old tx.new result }
 {
     for change in changes {
         change_rows(tx, lab, change)?;
@@ -112,6 +116,7 @@ fn framed_inside<W: Writable>(
         OnOk result (IsDatabase (W.state tx.old).now →
         Steps (InTurn (StepsBy lab.id) (framed moment between.now told.now))
         (W.state tx.old) (W.state tx.new)) }
+    ensures failed { FailsFor (λ _. OneIsTooMuch between.now) W.state tx.old tx.new result }
 {
     let person = person_if_any(tx, lab, &told.person)?;
     each_known(tx, lab, &told.person, person, between)?;
@@ -130,6 +135,7 @@ pub fn all_inside<W: Writable>(tx: &mut W, lab: RowId, changes: &[Change]) -> Re
     ensures made { IsTrue (W.state tx.old).in_transaction → HasCleanDisk (W.state tx.new) →
         OnOk result (IsDatabase (W.state tx.old).now →
         Steps (InTurn (StepsBy lab.id) changes.now) (W.state tx.old) (W.state tx.new)) }
+    ensures failed { FailsFor (λ _. OneIsTooMuch changes.now) W.state tx.old tx.new result }
 {
     match frame_of(changes) {
         Some(some) => framed_inside(tx, lab, some.moment, some.between, some.told),

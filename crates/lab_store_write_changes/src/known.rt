@@ -7,7 +7,8 @@ ghost use Rattle.sqlite.specs.State.{HasCleanDisk};
 ghost use Rattle.lab_records_kept.specs.declared.changes.Change.TheVariants.{PersonSet, SessionSet, RowAdded, SignatureAdded};
 ghost use Rattle.lab_store_tables.specs.Held.{IsTyped};
 ghost use Rattle.lab_store_laws.specs.Steps.{AppliesWhereKept};
-ghost use Rattle.lab_store_write.specs.Calls.{Stays, Steps, Writes, MadeFrom};
+ghost use Rattle.lab_store_write.specs.Calls.{Stays, Steps, Writes, WritesUnless, FailsFor, MadeFrom};
+ghost use Rattle.lab_store_write_changes.specs.Causes.{IsTooMuch, OneIsTooMuch};
 ghost use Rattle.lab_store_write_changes.specs.Framed.{spares_lab, Knows, StepsKnowing};
 
 use crate::changes::change_rows;
@@ -89,8 +90,9 @@ fn change_known<W: Writable>(
     id: Option<RowId>,
     change: &Change,
 ) -> Result<(), Error>
-    ensures { Writes W.lender W.state (MadeFrom (Knows lab.id known.now id)
-        (AppliesWhereKept lab.id change.now)) tx.old tx.new result }
+    ensures { WritesUnless (λ _. IsTooMuch change.now) W.lender W.state
+        (MadeFrom (Knows lab.id known.now id) (AppliesWhereKept lab.id change.now))
+        tx.old tx.new result }
 {
     match change {
         Change::PersonSet(person) => set_known(tx, lab, known, id, person),
@@ -125,6 +127,9 @@ pub(crate) fn each_known<W: Writable>(
         IsTrue (W.state tx.old).in_transaction → HasCleanDisk (W.state tx.new) →
         OnOk result (IsTyped (W.state tx.old).now → IsDatabase (W.state tx.old).now →
         Steps (StepsKnowing lab.id known.now id changes.now) (W.state tx.old) (W.state tx.new)) }
+    ensures typed { IsTrue (W.state tx.old).in_transaction → HasCleanDisk (W.state tx.new) →
+        OnOk result (IsTyped (W.state tx.old).now → IsTyped (W.state tx.new).now) }
+    ensures failed { FailsFor (λ _. OneIsTooMuch changes.now) W.state tx.old tx.new result }
 {
     for change in changes {
         change_known(tx, lab, known, id, change)?;

@@ -5,7 +5,8 @@ ghost use Rattle.sqlite.specs.Effect.{IsDatabase};
 ghost use Rattle.sqlite.specs.State.{HasCleanDisk};
 ghost use Rattle.lab_store_tables.specs.Changes.{InTurn, AddsPerson, AddsTold};
 ghost use Rattle.lab_store_tables.specs.Held.{IsTyped};
-ghost use Rattle.lab_store_write.specs.Calls.{AnswersCall, Writes};
+ghost use Rattle.lab_store_write.specs.Calls.{AnswersUnless, Writes, WritesUnless};
+ghost use Rattle.lab_store_write.specs.Causes.{IsTooGreat};
 ghost use Rattle.lab_store_write_changes.specs.NewbornRows.{AddsLab, AddsRows};
 
 use lab_people_access::Person;
@@ -21,7 +22,8 @@ use sqlite::Error;
 // # Errors
 // The errors of `Writable`, or the number is too great for the store.
 fn add_lab<W: Writable>(tx: &mut W, lab: &Lab) -> Result<RowId, Error>
-    ensures writes { AnswersCall W.lender W.state (λ one. AddsLab one.id lab.now) tx.old tx.new result }
+    ensures writes { AnswersUnless (λ _. IsTooGreat lab.now.strays) W.lender W.state
+        (λ one. AddsLab one.id lab.now) tx.old tx.new result }
     // The database then keeps its own rules, whatever it did before:
     ensures rules { IsTrue (W.state tx.old).in_transaction → HasCleanDisk (W.state tx.new) →
         OnOk result (IsTyped (W.state tx.old).now → IsDatabase (W.state tx.new).now) }
@@ -69,7 +71,8 @@ fn add_trail<W: Writable>(tx: &mut W, lab: RowId, trail: &[TrailRow]) -> Result<
 /// # Errors
 /// The store failed, or memory ran out.
 pub fn add_rows<W: Writable>(tx: &mut W, lab: &Lab) -> Result<(), Error>
-    ensures { Writes W.lender W.state (AddsRows lab.now) tx.old tx.new result }
+    ensures { WritesUnless (λ _. IsTooGreat lab.now.strays) W.lender W.state (AddsRows lab.now)
+        tx.old tx.new result }
 {
     let row = add_lab(tx, lab)?;
     add_persons(tx, row, lab.persons.as_slice())?;

@@ -1,6 +1,6 @@
 -- The sessions that a change of an account closes: which rows the look-ups show, and what closing these in turn makes.
-use Rattle.std.proofs.Common.{◌≡◌, ℕ, ℤ, ◌<ℤ◌, pos, Bool, true, false, not, ◌&&◌, ◌==◌, cond, List, [], ◌∷◌, map, filter, fold, IsTrue, codes, Some, refl, ap, ap₂, subst, ◌∙◌, arith, int_eq, int_cmp, Ordering, Less, Equal, Greater}
-use Rattle.std.specs.List.{AllByRecursion}
+use Rattle.std.proofs.Common.{◌≡◌, ℕ, ℤ, ◌<ℤ◌, pos, Bool, true, false, not, ◌&&◌, ◌==◌, cond, List, [], ◌∷◌, map, filter, fold, IsTrue, IsFalse, codes, Some, refl, ap, ap₂, subst, ◌∙◌, arith, int_eq, int_cmp, Ordering, Less, Equal, Greater}
+use Rattle.std.specs.List.{AllByRecursion, list_all}
 use Rattle.std.specs.Ordering.{is_eq, is_ne}
 use Rattle.std.proofs.lemmas.Int.{ints}
 use Rattle.std.proofs.lemmas.Bool.Decides.{nat_tests}
@@ -31,6 +31,7 @@ use Rattle.lab_store_read.proofs.Texts.{Means, is_param}
 use Rattle.lab_store_read.proofs.Sorted.{and_true}
 use Rattle.lab_store_read.proofs.Lists.{int_alike}
 use Rattle.lab_store_write.specs.Calls.{Steps, Finds}
+use Rattle.lab_store_write.specs.Causes.{shows_id}
 use Rattle.lab_store_write.specs.Ids.{id_read}
 use Rattle.lab_store_write_people.specs.Closings.{is_meant, closed_row, ClosesRow, close_of, is_open_of, opened_shown, ClosesOf}
 use Rattle.lab_store_write.proofs.Inside.{steps_then}
@@ -176,3 +177,14 @@ closes_of lab code closing person a b c =
 
 pub nothing_closed : (person : ℤ) (s : State) → IsTrue s.in_transaction → Steps (λ before after. after ≡ close_of person Nothing before) s s
 nothing_closed person s inside = record { inside = inside; made = λ typed. (typed, none_closed person (tables_of s)); sound = λ _ rules. rules }
+
+-- ---- each row that is shown shows an id
+
+ids_shown : (xs : List SessionRow) → list_all shows_id (map (λ (one : SessionRow). Int one.id ∷ []) xs) ≡ true
+ids_shown [] = refl
+ids_shown (x ∷ xs) = ids_shown xs
+
+pub opened_read : (person : ℤ) (closing : Closing) (t : Tables) (slice rows : List Row) → slice ≡ rows → rows ≡ opened_shown person closing t → ¬ IsFalse (list_all shows_id slice)
+opened_read person closing t slice rows same are unread =
+    let all : list_all shows_id slice ≡ true = ap (list_all shows_id) (same ∙ are) ∙ ids_shown (filter (is_open_of person closing) t.sessions) in
+    let wrong = unread in absurd cc

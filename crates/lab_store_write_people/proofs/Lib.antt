@@ -1,4 +1,5 @@
 pub mod PersonWords
+pub mod Unread
 pub mod Added
 pub mod ClosedAlike
 pub mod ClosingLemmas

@@ -1,10 +1,12 @@
 //! Sessions that are closed when the account of their person changes: at a lock and at a retirement
 //! (21 CFR 11.300(b) and (d)).
 
-ghost use Rattle.std.specs.Prelude.{◌≡◌};
+ghost use Rattle.std.specs.Prelude.{◌≡◌, IsFalse};
+ghost use Rattle.std.specs.List.{list_all};
 ghost use Rattle.lab_people_access.specs.declared.sessions.Closing.TheVariants.{All, Others};
 ghost use Rattle.lab_store_tables.specs.Changes.{InTurn};
-ghost use Rattle.lab_store_write.specs.Calls.{AnswersCall, Writes, Becomes, Finds};
+ghost use Rattle.lab_store_write.specs.Calls.{AnswersCall, Writes, WritesUnless, Becomes, Finds};
+ghost use Rattle.lab_store_write.specs.Causes.{shows_id};
 ghost use Rattle.lab_store_write_people.specs.Closings.{close_one, close_of, ClosesRow, ClosesOf, opened_shown};
 
 use lab_forms_texts::{Ordinal, PersonCode};
@@ -27,7 +29,8 @@ fn close_session<W: Writable>(tx: &mut W, session: RowId) -> Result<usize, Error
 
 // Closes the sessions whose ids the rows show, one after the other.
 fn close_rows<W: Writable>(tx: &mut W, rows: &[Row]) -> Result<(), Error>
-    ensures { Writes W.lender W.state (InTurn ClosesRow rows.now) tx.old tx.new result }
+    ensures { WritesUnless (λ _. IsFalse (list_all shows_id rows.now)) W.lender W.state
+        (InTurn ClosesRow rows.now) tx.old tx.new result }
 {
     for row in rows {
         let session = id_of(row)?;

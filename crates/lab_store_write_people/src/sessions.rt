@@ -1,9 +1,11 @@
 //! Sessions.
 
-ghost use Rattle.std.specs.Prelude.{◌≡◌, Some};
+ghost use Rattle.std.specs.Prelude.{◌≡◌, Some, IfOk, IsTrue};
+ghost use Rattle.sqlite.specs.State.{HasCleanDisk};
 ghost use Rattle.lab_store_tables.specs.Rows.{LabRow};
 ghost use Rattle.lab_store_tables.specs.Changes.{in_lab, person_named, AddsSession, SetsSession};
 ghost use Rattle.lab_store_write.specs.Calls.{AnswersCall, Writes, Becomes, MadeFrom};
+ghost use Rattle.lab_store_write.specs.Causes.{IsRun};
 ghost use Rattle.lab_store_write_people.specs.Added.{with_session, SetsIfAny};
 
 use lab_forms_texts::Ordinal;
@@ -73,8 +75,10 @@ fn update_session<W: Writable>(
     person: RowId,
     session: &Session,
 ) -> Result<usize, Error>
-    ensures { AnswersCall W.lender W.state (SetsIfAny lab.id person.id session.now)
+    ensures writes { AnswersCall W.lender W.state (SetsIfAny lab.id person.id session.now)
         tx.old tx.new result }
+    ensures ran { IsTrue (W.state tx.old).in_transaction → HasCleanDisk (W.state tx.new) →
+        IfOk result (IsRun (W.state tx.old) (W.state tx.new)) }
 {
     let token = session.token.bytes();
     run(

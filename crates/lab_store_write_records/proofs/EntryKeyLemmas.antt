@@ -2,7 +2,6 @@
 use Rattle.std.proofs.Common.{◌≡◌, ℕ, ℤ, ◌&&◌, List, [], ◌∷◌, map, filter, codes, slice_get, Some, option_map, refl, sym, ap, ap₂, ◌∙◌}
 use Rattle.sqlite_value.specs.declared.value.Value.TheVariants.{Int}
 use Rattle.sqlite_value.specs.Order.{Row}
-use Rattle.sqlite_keyed.proofs.ListLemmas.{slice_get-filter}
 use Rattle.sqlite_sql.specs.Program.{overlay}
 use Rattle.sqlite_sql.specs.Term.{Term, col}
 use Rattle.sqlite_tied.specs.Compute.{everything}
@@ -16,21 +15,22 @@ use Rattle.lab_store_tables.specs.Family.{Records, Entries, Signatures}
 use Rattle.lab_store_read.proofs.Texts.{Means, is_param}
 use Rattle.lab_store_read.proofs.Sorted.{equal_numbers, and_true}
 use Rattle.lab_store_write.specs.Calls.{Steps, Finds}
+use Rattle.lab_store_write.specs.Ids.{id_read}
 use Rattle.lab_store_write.proofs.Inside.{steps_weaker}
-use Rattle.lab_store_write.proofs.Lookups.{by_key_query, rows_by_key}
-use Rattle.lab_store_write_records.specs.VersionsShown.{records_shown, is_entry_of, is_signature_of, record_key_of, record_pair}
+use Rattle.lab_store_write.proofs.Lookups.{by_key_query, rows_by_key, first_key}
+use Rattle.lab_store_write_records.specs.VersionsShown.{records_shown, is_entry_of, is_signature_of}
 use Rattle.lab_store_write_records.proofs.VersionsShownWords.{entries_shown, signatures_shown}
 use Rattle.lab_store_tables.proofs.Comparing.{equal_ints}
 
--- ---- a record, with its current version
+-- ---- a record
 
 abbrev pub record_text : List ℕ
-record_text = codes "SELECT id, current FROM records WHERE lab = ?1 AND number = ?2 ORDER BY id"
+record_text = codes "SELECT id FROM records WHERE lab = ?1 AND number = ?2 ORDER BY id"
 
 abbrev record_tests : List Term
 record_tests = is_param 2 0 ∷ is_param 3 1 ∷ []
 
-pub record_means : Means record_text (by_key_query 15 record_tests (col 1 0 ∷ col 1 7 ∷ [])) (codes "id" ∷ codes "current" ∷ [])
+pub record_means : Means record_text (by_key_query 15 record_tests (col 1 0 ∷ [])) (codes "id" ∷ [])
 unfolding understood everything
 record_means = record { read = (_, refl); command = refl; unlisted = refl; plain = (refl, refl) }
 
@@ -39,29 +39,19 @@ pub records_read : (old new : State) (lab : ℤ) (wanted : ℕ) (rows : List Row
 records_read old new lab wanted rows typed h =
     let t = tables_in old.now.trees in
     rows_by_key 15 record_id record_row (λ _. refl) t.records (overlay old.now.trees []) (typed.stored.at Records) (typed.rising.at Records)
-    record_text record_tests (col 1 0 ∷ col 1 7 ∷ []) (codes "id" ∷ codes "current" ∷ []) record_means
-    (Int lab ∷ number wanted ∷ []) (is_record_row lab wanted) (λ (one : RecordRow). Int one.id ∷ number one.current ∷ [])
+    record_text record_tests (col 1 0 ∷ []) (codes "id" ∷ []) record_means
+    (Int lab ∷ number wanted ∷ []) (is_record_row lab wanted) (λ (one : RecordRow). Int one.id ∷ [])
     (λ x. ap₂ ◌&&◌ (equal_ints x.lab lab) (and_true _ ∙ equal_numbers x.number wanted)) (λ x. refl)
     old new typed.schema refl rows h
 
-first_record : (lab : ℤ) (wanted : ℕ) (t : Tables)
-    → option_map record_key_of (slice_get (records_shown lab wanted t) 0) ≡ option_map record_pair (record_named t lab wanted)
-first_record lab wanted t = go (filter (is_record_row lab wanted) t.records)
-    ∙ ap (option_map record_pair) (slice_get-filter (is_record_row lab wanted) t.records)
-  where
-    go : (found : List RecordRow) → option_map record_key_of (slice_get (map (λ (one : RecordRow). Int one.id ∷ number one.current ∷ []) found) 0)
-        ≡ option_map record_pair (slice_get found 0)
-    go [] = refl
-    go (one ∷ more) = refl
-
-pub record_found : (lab : ℤ) (given wanted : ℕ) (shown rows : List Row) (pair : ℤ × ℕ) (old new : State) → given ≡ wanted → shown ≡ rows
+pub record_found : (lab : ℤ) (given wanted : ℕ) (shown rows : List Row) (id : ℤ) (old new : State) → given ≡ wanted → shown ≡ rows
     → Steps (Finds (λ t. rows ≡ records_shown lab given t)) old new
-    → option_map record_key_of (slice_get shown 0) ≡ Some pair → Steps (Finds (λ t. option_map record_pair (record_named t lab wanted) ≡ Some pair)) old new
-record_found lab given wanted shown rows pair old new same slice it first =
-    steps_weaker (Finds (λ t. rows ≡ records_shown lab given t)) (Finds (λ t. option_map record_pair (record_named t lab wanted) ≡ Some pair)) old new
+    → option_map id_read (slice_get shown 0) ≡ Some id → Steps (Finds (λ t. option_map record_id (record_named t lab wanted) ≡ Some id)) old new
+record_found lab given wanted shown rows id old new same slice it first =
+    steps_weaker (Finds (λ t. rows ≡ records_shown lab given t)) (Finds (λ t. option_map record_id (record_named t lab wanted) ≡ Some id)) old new
     (λ before after found. (
-      ap (λ (n : ℕ). option_map record_pair (record_named before lab n)) (sym same) ∙ sym (first_record lab given before)
-          ∙ ap (λ (l : List Row). option_map record_key_of (slice_get l 0)) (sym (slice ∙ found.0)) ∙ first,
+      ap (λ (n : ℕ). option_map record_id (record_named before lab n)) (sym same) ∙ sym (first_key record_id (is_record_row lab given) before.records)
+          ∙ ap (λ (l : List Row). option_map id_read (slice_get l 0)) (sym (slice ∙ found.0)) ∙ first,
       found.1,
     ))
     it

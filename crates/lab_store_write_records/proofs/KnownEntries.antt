@@ -10,7 +10,7 @@ use Rattle.lab_records_kept.specs.declared.records.Signature.{Signature}
 use Rattle.lab_records_kept.proofs.KnownDefaults.{bare_entry, bare_signature}
 use Rattle.lab_store_tables.proofs.KnownFile.{filled, file, entry, signature}
 use Rattle.lab_store_write_records.specs.EntriesAdded.{with_entry, with_signature}
-use Rattle.lab_store_write_records.specs.VersionsShown.{records_shown, current_of, version_in_record, versions_shown, record_key_of}
+use Rattle.lab_store_write_records.specs.VersionsShown.{records_shown, current_of, version_in_record, versions_shown}
 use Rattle.lab_store_write_records.proofs.VersionsShownWords.{entries_shown, signatures_shown}
 
 -- a row that shows an id
@@ -20,9 +20,8 @@ shown id = Int id ∷ []
 -- ---- look-ups
 
 -- of the one laboratory and the number alone
-pub known_keys : (records_shown (pos 7) 1 file ≡ (Int (pos 3) ∷ Int (pos 2) ∷ []) ∷ [])
-    × (records_shown (pos 3) 2 file ≡ []) × (record_key_of (Int (pos 3) ∷ Int (pos 2) ∷ []) ≡ (pos 3, 2))
-known_keys = (refl, refl, refl)
+pub known_keys : (records_shown (pos 7) 1 file ≡ shown (pos 3) ∷ []) × (records_shown (pos 3) 2 file ≡ [])
+known_keys = (refl, refl)
 
 -- the current version, or another one; NULL where the record has none of the number, and no row where there is no record
 pub known_versions : (versions_shown current_of (pos 7) 1 file ≡ shown (pos 3) ∷ []) × (versions_shown (λ _. 1) (pos 7) 1 file ≡ shown (pos 1) ∷ [])

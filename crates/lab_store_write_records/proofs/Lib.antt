@@ -1,5 +1,6 @@
 pub mod FieldsShownWords
 pub mod VersionsShownWords
+pub mod Unversioned
 pub mod Added
 pub mod EntryKeyLemmas
 pub mod EntryWrites

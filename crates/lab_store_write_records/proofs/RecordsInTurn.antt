@@ -10,7 +10,6 @@ use Rattle.lab_store_tables.specs.Changes.{in_lab, person_named, form_named, rec
 use Rattle.lab_store_tables.specs.Ready.{tables_of}
 use Rattle.lab_store_tables.specs.Family.{Records, Versions}
 use Rattle.lab_store_write.specs.Calls.{Steps, Finds}
-use Rattle.lab_store_write_records.specs.VersionsShown.{record_pair}
 use Rattle.lab_store_write_records.specs.RecordsAdded.{with_record, with_version}
 
 pub version_added : (lab kept : ℤ) (version : Version) (opener id : ℤ) (a b c d e : State)
@@ -70,23 +69,22 @@ record_added lab kept form id a b c d e p q r s = record {
   sound = λ typed rules. let one = p.made typed in let two = q.made one.0 in s.sound (r.made two.0).0 (r.sound two.0 (q.sound one.0 (p.sound typed rules)));
 }
 
--- the row that a pair was read of
-row_of_pair : (o : Option RecordRow) (id : ℤ) (current : ℕ) → option_map record_pair o ≡ Some (id, current)
-    → (kept : RecordRow) × (o ≡ Some kept) × (kept.id ≡ id)
-row_of_pair None id current h = absurd cc
-row_of_pair (Some kept) id current h = let same : (kept.id, kept.current) ≡ (id, current) = cc in (kept, refl, ap (λ (p : ℤ × ℕ). p.0) same)
+-- the row that an id was read of
+row_of_id : (o : Option RecordRow) (id : ℤ) → option_map record_id o ≡ Some id → (kept : RecordRow) × (o ≡ Some kept) × (kept.id ≡ id)
+row_of_id None id h = absurd cc
+row_of_id (Some kept) id h = let same : kept.id ≡ id = cc in (kept, refl, same)
 
-pub version_opened : (lab : ℤ) (wanted : ℕ) (version : Version) (id : ℤ) (current : ℕ) (a b c d : State)
-    → Steps (Finds (λ t. option_map record_pair (record_named t lab wanted) ≡ Some (id, current))) a b
+pub version_opened : (lab : ℤ) (wanted : ℕ) (version : Version) (id : ℤ) (a b c d : State)
+    → Steps (Finds (λ t. option_map record_id (record_named t lab wanted) ≡ Some id)) a b
     → Steps (AddsVersion lab id version) b c → Steps (λ before after. after ≡ set_current id version.origin.number before) c d
     → Steps (OpensVersion lab wanted version) a d
-version_opened lab wanted version id current a b c d p q r = record {
+version_opened lab wanted version id a b c d p q r = record {
   inside = r.inside;
   made = λ typed.
       let one = p.made typed in
       let two = q.made one.0 in
       let three = r.made two.0 in
-      let it = row_of_pair (record_named (tables_of a) lab wanted) id current one.1.0 in
+      let it = row_of_id (record_named (tables_of a) lab wanted) id one.1.0 in
       let opened : OpensVersion lab wanted version (tables_of a) (tables_of d) = record {
         kept = it.0;
         found = it.1;

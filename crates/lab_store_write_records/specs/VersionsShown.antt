@@ -1,18 +1,19 @@
 -- What each look-up shows: the rows that have a key or a parent, by their ids, or NULL where a
 -- record has no such version.
-use Rattle.std.specs.Prelude.{ℕ, ℤ, Bool, List, [], ◌∷◌, map, filter, flat_map, Option, option_and_then}
+use Rattle.std.specs.Prelude.{◌⊎◌, ℕ, ℤ, Bool, List, [], ◌∷◌, map, filter, flat_map, slice_get, Option, IsSomeAnd, IsFalse, option_and_then}
 use Rattle.std.specs.Ordering.{int_eq}
 use Rattle.sqlite_value.specs.declared.value.Value.{Value}
 use Rattle.sqlite_value.specs.declared.value.Value.TheVariants.{Null, Int}
 use Rattle.sqlite_value.specs.Order.{Row, column}
-use Rattle.sqlite_rules.specs.Edit.{id_in}
-use Rattle.lab_store_tables.specs.Rows.{RecordRow, VersionRow, EntryRow, SignatureRow, Tables, number, number_in}
+use Rattle.sqlite.specs.declared.error.Error.{Error}
+use Rattle.lab_store_tables.specs.Rows.{RecordRow, VersionRow, EntryRow, SignatureRow, Tables}
 use Rattle.lab_store_tables.specs.Changes.{is_record_row, record_named, is_version_row, version_named}
+use Rattle.lab_store_read.specs.Cells.{is_id, is_optional, stands}
+use Rattle.lab_store_write.specs.Causes.{IsVain}
 
--- a record by its id and its current version
 abbrev pub records_shown : ℤ → ℕ → Tables → List Row
 records_shown lab wanted t =
-    map (λ (one : RecordRow). Int one.id ∷ number one.current ∷ [])
+    map (λ (one : RecordRow). Int one.id ∷ [])
     (filter (is_record_row lab wanted) t.records)
 
 -- ---- a version of the record of a number; the version's number may stand in the record
@@ -47,11 +48,10 @@ is_signature_of version one = int_eq one.version version
 
 -- ---- what is read of a row
 
-abbrev pub record_key_of : Row → ℤ × ℕ
-record_key_of row = (id_in (column row 0), number_in (column row 1))
-
-abbrev pub record_pair : RecordRow → ℤ × ℕ
-record_pair kept = (kept.id, kept.current)
-
 abbrev pub first_value : Row → Value
 first_value row = column row 0
+
+-- why no version is read of the first row: there is none, or NULL stands there, or no id
+abbrev pub IsUnversioned : List Row → Error → Type 0
+IsUnversioned rows e =
+    IsVain rows e ⊎ IsSomeAnd (slice_get rows 0) (λ row. IsFalse (stands (is_optional is_id) row 0))

@@ -4,6 +4,7 @@ ghost use Rattle.std.specs.Prelude.{◌≡◌, Some};
 ghost use Rattle.lab_records_kept.specs.declared.changes.Change.TheVariants.{RowAdded};
 ghost use Rattle.lab_store_tables.specs.Changes.{AppliesIn, AddsEntry, person_named};
 ghost use Rattle.lab_store_write.specs.Calls.{Writes, Becomes, MadeFrom};
+ghost use Rattle.lab_store_write.specs.Causes.{IsTooGreat};
 ghost use Rattle.lab_store_write_records.specs.EntriesAdded.{with_entry, AddsEntryOf};
 
 use crate::named::current_version_at;
@@ -12,7 +13,7 @@ use crate::texts::note_or_null;
 use lab_forms_texts::Ordinal;
 use lab_seal_versions::EntryRow;
 use lab_store_write::statements::run;
-use lab_store_write::values::{count_value, id_value, moment_value, text_value};
+use lab_store_write::values::{id_value, moment_value, place_value, text_value};
 use lab_store_write::{RowId, Writable, person_id_at};
 use sqlite::Error;
 
@@ -24,10 +25,10 @@ fn insert_entry<W: Writable>(
     person: RowId,
     entry: &EntryRow,
 ) -> Result<usize, Error>
+    requires { ¬ IsTooGreat place }
     ensures { Writes W.lender W.state (Becomes (with_entry version.id place person.id entry.now))
         tx.old tx.new result }
 {
-    let at = count_value(place)?;
     let key = entry.key.as_str();
     let value = entry.value.as_str();
     let unit = entry.unit.as_str();
@@ -36,7 +37,7 @@ fn insert_entry<W: Writable>(
         "INSERT INTO entries (version, place, key, value, unit, person, moment, reason) VALUES (?1, ?2, ?3, ?4, ?5, ?6, ?7, ?8)",
         &[
             id_value(version),
-            at,
+            place_value(place),
             text_value(key),
             text_value(value),
             text_value(unit),

@@ -7,6 +7,7 @@ ghost use Rattle.lab_store_tables.specs.Rows.{form_id, field_id};
 ghost use Rattle.lab_store_tables.specs.Columns.{kind_names};
 ghost use Rattle.lab_store_tables.specs.Changes.{AppliesIn, InTurn, AddsChoice, AddsField};
 ghost use Rattle.lab_store_write.specs.Calls.{AnswersCall, Writes, Becomes};
+ghost use Rattle.lab_store_write.specs.Causes.{IsTooGreat};
 ghost use Rattle.lab_store_write_records.specs.FormsAdded.{with_choice, with_field, with_form};
 
 use crate::kinds::{
@@ -18,7 +19,7 @@ use lab_forms_texts::Name;
 use lab_records_kept::FormVersion;
 use lab_store_write::ids::insert;
 use lab_store_write::statements::run;
-use lab_store_write::values::{count_value, flag_value, id_value, ordinal_value, text_value};
+use lab_store_write::values::{flag_value, id_value, ordinal_value, place_value, text_value};
 use lab_store_write::{RowId, Writable};
 use sqlite::Error;
 
@@ -29,14 +30,18 @@ fn insert_choice<W: Writable>(
     place: u64,
     name: &Name,
 ) -> Result<usize, Error>
+    requires { ¬ IsTooGreat place }
     ensures { Writes W.lender W.state (Becomes (with_choice field.id place name.now))
         tx.old tx.new result }
 {
-    let at = count_value(place)?;
     run(
         tx,
         "INSERT INTO choices (field, place, name) VALUES (?1, ?2, ?3)",
-        &[id_value(field), at, text_value(name.as_str())],
+        &[
+            id_value(field),
+            place_value(place),
+            text_value(name.as_str()),
+        ],
     )
 }
 
@@ -99,12 +104,12 @@ fn insert_field<W: Writable>(
     place: u64,
     field: &Field,
 ) -> Result<RowId, Error>
+    requires { ¬ IsTooGreat place }
     ensures { AnswersCall W.lender W.state (λ one before after.
         (one.id ≡ next_key field_id before.fields)
         × (after ≡ with_field form.id place field.now before))
         tx.old tx.new result }
 {
-    let at = count_value(place)?;
     let key = field.key.as_str();
     let label = field.label.as_str();
     let word = kind_word(&field.kind);
@@ -113,7 +118,7 @@ fn insert_field<W: Writable>(
         "INSERT INTO fields (form, place, key, label, required, kind, unit, decimals, low, high, size) VALUES (?1, ?2, ?3, ?4, ?5, ?6, ?7, ?8, ?9, ?10, ?11)",
         &[
             id_value(form),
-            at,
+            place_value(place),
             text_value(key),
             text_value(label),
             flag_value(field.required),

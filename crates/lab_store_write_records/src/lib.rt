@@ -16,7 +16,7 @@ mod versions;
 
 pub use entries::{add_entry, enter_row, enter_row_of};
 pub use forms::add_form;
-pub use named::{RecordAt, record_at};
+pub use named::record_at;
 pub use records::add_record;
 pub use signatures::{add_signature, sign_version, sign_version_of};
 pub use versions::open_version;

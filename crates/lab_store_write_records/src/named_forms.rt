@@ -1,8 +1,10 @@
 //! A version of a form that is named by the key of its table.
 
-ghost use Rattle.std.specs.Prelude.{◌≡◌, Some};
+ghost use Rattle.std.specs.Prelude.{◌≡◌, Some, IfOk};
+ghost use Rattle.sqlite.specs.State.{HasCleanDisk};
 ghost use Rattle.lab_store_tables.specs.Changes.{form_named};
 ghost use Rattle.lab_store_write.specs.Calls.{AnswersCall, Finds};
+ghost use Rattle.lab_store_write.specs.Causes.{IsShown};
 ghost use Rattle.lab_store_write_records.specs.FormsShown.{forms_shown};
 
 use lab_forms_texts::{Key, Ordinal};
@@ -17,9 +19,11 @@ fn form_rows<W: Writable>(
     code: &str,
     version: Ordinal,
 ) -> Result<Vec<Row>, Error>
-    ensures { AnswersCall W.lender W.state
+    ensures found { AnswersCall W.lender W.state
         (λ rows. Finds (λ t. rows.items ≡ forms_shown lab.id code.now version t))
         tx.old tx.new result }
+    ensures shown { HasCleanDisk (W.state tx.new) →
+        IfOk result (λ rows. IsShown (W.state tx.old) (W.state tx.new) rows.items) }
 {
     tx.query_all(
         "SELECT id FROM forms WHERE lab = ?1 AND code = ?2 AND version = ?3 ORDER BY id",

@@ -1,7 +1,8 @@
 //! The place after the rows that a parent has.
 
-ghost use Rattle.std.specs.Prelude.{◌≡◌, ◌+◌, filter, length};
+ghost use Rattle.std.specs.Prelude.{◌≡◌, ◌+◌, filter, length, IfOk};
 ghost use Rattle.lab_store_write.specs.Calls.{AnswersCall, Finds};
+ghost use Rattle.lab_store_write.specs.Causes.{IsTooGreat};
 ghost use Rattle.lab_store_write_records.specs.FieldsShown.{is_field_of, is_choice_of};
 ghost use Rattle.lab_store_write_records.specs.VersionsShown.{is_entry_of, is_signature_of};
 
@@ -13,9 +14,10 @@ use sqlite::Error;
 /// # Errors
 /// The store failed, or memory ran out.
 pub(crate) fn field_place<W: Writable>(tx: &mut W, parent: RowId) -> Result<u64, Error>
-    ensures { AnswersCall W.lender W.state
+    ensures counts { AnswersCall W.lender W.state
         (λ place. Finds (λ t. place ≡ length (filter (is_field_of parent.id) t.fields) + 1))
         tx.old tx.new result }
+    ensures fits { IfOk result (λ place. ¬ IsTooGreat place) }
 {
     place_below(
         tx,
@@ -29,9 +31,10 @@ pub(crate) fn field_place<W: Writable>(tx: &mut W, parent: RowId) -> Result<u64,
 /// # Errors
 /// The store failed, or memory ran out.
 pub(crate) fn choice_place<W: Writable>(tx: &mut W, parent: RowId) -> Result<u64, Error>
-    ensures { AnswersCall W.lender W.state
+    ensures counts { AnswersCall W.lender W.state
         (λ place. Finds (λ t. place ≡ length (filter (is_choice_of parent.id) t.choices) + 1))
         tx.old tx.new result }
+    ensures fits { IfOk result (λ place. ¬ IsTooGreat place) }
 {
     place_below(
         tx,
@@ -45,9 +48,10 @@ pub(crate) fn choice_place<W: Writable>(tx: &mut W, parent: RowId) -> Result<u64
 /// # Errors
 /// The store failed, or memory ran out.
 pub(crate) fn entry_place<W: Writable>(tx: &mut W, parent: RowId) -> Result<u64, Error>
-    ensures { AnswersCall W.lender W.state
+    ensures counts { AnswersCall W.lender W.state
         (λ place. Finds (λ t. place ≡ length (filter (is_entry_of parent.id) t.entries) + 1))
         tx.old tx.new result }
+    ensures fits { IfOk result (λ place. ¬ IsTooGreat place) }
 {
     place_below(
         tx,
@@ -61,9 +65,10 @@ pub(crate) fn entry_place<W: Writable>(tx: &mut W, parent: RowId) -> Result<u64,
 /// # Errors
 /// The store failed, or memory ran out.
 pub(crate) fn signature_place<W: Writable>(tx: &mut W, parent: RowId) -> Result<u64, Error>
-    ensures { AnswersCall W.lender W.state
+    ensures counts { AnswersCall W.lender W.state
         (λ place. Finds (λ t. place ≡ length (filter (is_signature_of parent.id) t.signatures) + 1))
         tx.old tx.new result }
+    ensures fits { IfOk result (λ place. ¬ IsTooGreat place) }
 {
     place_below(
         tx,

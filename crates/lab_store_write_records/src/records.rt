@@ -14,7 +14,7 @@ use lab_forms_texts::Ordinal;
 use lab_records_kept::{Record, Version};
 use lab_store_write::ids::insert;
 use lab_store_write::statements::run;
-use lab_store_write::values::{count_value, id_value, ordinal_value, text_value};
+use lab_store_write::values::{id_value, ordinal_value, place_value, text_value};
 use lab_store_write::{RowId, Writable};
 use sqlite::Error;
 
@@ -33,7 +33,7 @@ fn insert_record<W: Writable>(
     let code = kept.form.code.as_str();
     let sample = kept.sample.as_str();
     let versions = kept.versions.as_slice();
-    let current = count_value(versions.len() as u64)?;
+    let current = versions.len() as u64;
     insert(
         tx,
         "INSERT INTO records (lab, number, form, form_code, sample, current) VALUES (?1, ?2, ?3, ?4, ?5, ?6)",
@@ -43,7 +43,7 @@ fn insert_record<W: Writable>(
             id_value(form),
             text_value(code),
             text_value(sample),
-            current,
+            place_value(current),
         ],
     )
 }

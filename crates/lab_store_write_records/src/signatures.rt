@@ -4,6 +4,7 @@ ghost use Rattle.std.specs.Prelude.{◌≡◌, Some};
 ghost use Rattle.lab_records_kept.specs.declared.changes.Change.TheVariants.{SignatureAdded};
 ghost use Rattle.lab_store_tables.specs.Changes.{AppliesIn, AddsSignature, person_named};
 ghost use Rattle.lab_store_write.specs.Calls.{Writes, Becomes, MadeFrom};
+ghost use Rattle.lab_store_write.specs.Causes.{IsTooGreat};
 ghost use Rattle.lab_store_write_records.specs.EntriesAdded.{with_signature, AddsSignatureOf};
 
 use crate::named::version_at;
@@ -12,7 +13,7 @@ use crate::texts::reason_or_null;
 use lab_forms_texts::Ordinal;
 use lab_records_kept::Signature;
 use lab_store_write::statements::run;
-use lab_store_write::values::{blob_value, count_value, id_value, moment_value, text_value};
+use lab_store_write::values::{blob_value, id_value, moment_value, place_value, text_value};
 use lab_store_write::{RowId, Writable, person_id_at};
 use sqlite::Error;
 
@@ -24,10 +25,10 @@ fn insert_signature<W: Writable>(
     person: RowId,
     signature: &Signature,
 ) -> Result<usize, Error>
+    requires { ¬ IsTooGreat place }
     ensures { Writes W.lender W.state
         (Becomes (with_signature version.id place person.id signature.now)) tx.old tx.new result }
 {
-    let at = count_value(place)?;
     let name = signature.name.as_str();
     let meaning = signature.meaning.word();
     let digest = signature.digest.bytes();
@@ -37,7 +38,7 @@ fn insert_signature<W: Writable>(
         "INSERT INTO signatures (version, place, person, name, meaning, moment, reason, digest, seal) VALUES (?1, ?2, ?3, ?4, ?5, ?6, ?7, ?8, ?9)",
         &[
             id_value(version),
-            at,
+            place_value(place),
             id_value(person),
             text_value(name),
             text_value(meaning),

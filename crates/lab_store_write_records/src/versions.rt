@@ -136,7 +136,7 @@ pub fn open_version<W: Writable>(
         tx.old tx.new result }
 {
     let kept = record_at(tx, lab, wanted)?;
-    add_version(tx, lab, kept.id, version)?;
-    set_current(tx, kept.id, version.origin.number())?;
+    add_version(tx, lab, kept, version)?;
+    set_current(tx, kept, version.origin.number())?;
     Ok(())
 }

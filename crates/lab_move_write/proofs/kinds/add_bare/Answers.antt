@@ -1,8 +1,10 @@
-use Rattle.std.proofs.Common.{subst}
+use Rattle.std.proofs.Common.{inl, inr, Err, refl, subst}
+use Rattle.sqlite.specs.declared.error.Error.TheVariants.{SqliteFailure}
+use Rattle.sqlite.specs.declared.error.ErrorCode.TheVariants.{OutOfMemory}
 use Rattle.lab_people_access.specs.declared.persons.Person.{Person}
 use Rattle.lab_store_tables.specs.Changes.{AddsPerson}
 use Rattle.lab_store_write.specs.Calls.{Writes}
-use Rattle.lab_store_write.proofs.Writers.{nothing_asked}
+use Rattle.lab_store_write.proofs.Writers.{not_asked}
 use Rattle.lab_move_write.proofs.kinds.add_bare.Goals as goal
 
 pub returns-in-Ok : goal.returns-in-Ok
@@ -11,4 +13,4 @@ returns-in-Ok g c =
     c.in-Ok.ensures c.add_person.ensures
 
 pub returns-in-Err : goal.returns-in-Err
-returns-in-Err g c = nothing_asked c.args.tx.now (λ inside. tt)
+returns-in-Err g c = not_asked c.args.tx.now {e = SqliteFailure OutOfMemory} (inr (inl refl)) (Err (SqliteFailure OutOfMemory)) refl

@@ -2,12 +2,15 @@ use Rattle.std.proofs.Common.{◌≡◌, [], ◌∷◌}
 use Rattle.sqlite_value.specs.declared.value.Value.TheVariants.{Int, Text}
 use Rattle.sqlite.specs.Values.{bound}
 use Rattle.lab_store_write.specs.Shown.{persons_shown}
-use Rattle.lab_store_write.proofs.Writers.{rows_found}
+use Rattle.lab_store_write.proofs.Writers.{rows_found, shown_rows}
 use Rattle.lab_store_write.proofs.KeyLemmas.{person_text, person_means, persons_read}
 use Rattle.lab_store_write.proofs.named.person_rows.Goals as goal
 
-pub returns : goal.returns
-returns g c =
+pub returns-clause-shown : goal.returns-clause-shown
+returns-clause-shown g c = shown_rows (g.W.Writable.state c.args.tx.now) (g.W.Writable.state c.query_all.new.self) _ _ c.query_all.result c.query_all.ensures.ok
+
+pub returns-clause-found : goal.returns-clause-found
+returns-clause-found g c =
     let lab = c.args.lab.id in
     let key = c.args.code.now in
     let it = c.query_all.ensures in

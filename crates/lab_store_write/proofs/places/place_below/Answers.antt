@@ -5,8 +5,8 @@ use Rattle.sqlite.specs.State.{Shown, FailsToQuery, IsTooLate}
 use Rattle.sqlite.specs.Values.{bound}
 use Rattle.lab_store_write.proofs.places.place_below.Goals as goal
 
-pub returns-in-Ok : goal.returns-in-Ok
-returns-in-Ok g c =
+pub returns-in-Ok-clause-counts : goal.returns-in-Ok-clause-counts
+returns-in-Ok-clause-counts g c =
     let old = g.W.Writable.state c.args.tx.now in
     let new = g.W.Writable.state c.query_all.new.self in
     let given : bound (c.id_value.result ∷ []) ≡ Int c.args.parent.id ∷ [] = λ i. c.id_value.ensures i ∷ [] in
@@ -16,13 +16,13 @@ returns-in-Ok g c =
       ok = λ clean. (
         c.in-Ok.rows,
         subst (λ (row : Row). Shown c.args.text.now row old new c.in-Ok.rows.items) given (c.in-Ok.ensures.ok clean),
-        c.place_behind.ensures ∙ ap (λ (l : List Row). length l + 1) c.deref.ensures.value,
+        c.place_behind.ensures.value ∙ ap (λ (l : List Row). length l + 1) c.deref.ensures.value,
       );
       err = λ clean. tt;
     }
 
-pub returns-in-Err : goal.returns-in-Err
-returns-in-Err g c =
+pub returns-in-Err-clause-counts : goal.returns-in-Err-clause-counts
+returns-in-Err-clause-counts g c =
     let old = g.W.Writable.state c.args.tx.now in
     let new = g.W.Writable.state c.query_all.new.self in
     let sql = c.args.text.now in

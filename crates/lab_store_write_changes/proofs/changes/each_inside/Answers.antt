@@ -5,6 +5,7 @@ use Rattle.lab_store_laws.specs.Steps.{AppliesWhereKept}
 use Rattle.lab_store_write.specs.Calls.{Steps}
 use Rattle.lab_store_write.proofs.Writers.{nothing_done, stays_then}
 use Rattle.lab_store_write_changes.proofs.Steps.{none_made, one_more}
+use Rattle.lab_store_write_changes.proofs.Failures.{one_failed}
 use Rattle.lab_store_write_changes.proofs.changes.each_inside.Goals as goal
 
 pub loop-change-init : goal.loop-change-init
@@ -12,6 +13,7 @@ loop-change-init g c = (
   nothing_done c.args.tx.now,
   λ inside clean. inside,
   λ inside clean rules. none_made c.args.lab.id (g.W.Writable.state c.args.tx.now) inside,
+  λ inside clean typed. typed,
 )
 
 pub loop-change-preserved : goal.loop-change-preserved
@@ -28,4 +30,16 @@ loop-change-preserved g c =
       λ inside clean. (did.made (inv.1 inside (early clean)) clean).inside,
       λ inside clean rules. one_more c.args.lab.id c.args.changes.now i c.change-item.result within old mid new rules (inv.2 inside (early clean) rules)
           (subst (λ (one : Change). Steps (AppliesWhereKept c.args.lab.id one) mid new) c.change-item.is (did.made (inv.1 inside (early clean)) clean)),
+      λ inside clean typed. ((did.made (inv.1 inside (early clean)) clean).made (inv.3 inside (early clean) typed)).0,
     )
+
+pub returns-in_err-change_rows-clause-failed : goal.returns-in_err-change_rows-clause-failed
+returns-in_err-change_rows-clause-failed g c inside clean typed =
+    let mid = g.W.Writable.state c.loop-change.tx in
+    let new = g.W.Writable.state c.change_rows.new.tx in
+    let inv = c.loop-change.invariant in
+    let did = c.in_err-change_rows.ensures in
+    let early : HasCleanDisk new → HasCleanDisk mid = λ clean. omega (arith, did.stays.survives.clean) in
+    one_failed g.W.Writable.state c.args.tx.now c.loop-change.tx c.change_rows.new.tx c.args.changes.now c.loop-change.change-index c.change-item.result c.change-item.is
+    (omega (arith, c.loop-change-test.true)) inv.0.survives (did.failed (inv.1 inside (early clean)) clean (inv.3 inside (early clean) typed))
+    c.from_residual.result c.from_residual.ensures.1

@@ -2,6 +2,7 @@ use Rattle.std.proofs.Common.{IsTrue, take}
 use Rattle.sqlite.specs.Effect.{IsDatabase}
 use Rattle.sqlite.specs.State.{HasCleanDisk}
 use Rattle.lab_store_tables.specs.Changes.{InTurn}
+use Rattle.lab_store_tables.specs.Held.{IsTyped}
 use Rattle.lab_store_laws.specs.Steps.{StepsBy}
 use Rattle.lab_store_write.specs.Calls.{Stays, Steps}
 use Rattle.lab_store_write_changes.proofs.changes.each_inside.Given as goal
@@ -14,3 +15,4 @@ invariant-loop-change g l =
     Stays g.W.Writable.lender g.W.Writable.state l.fn.tx l.tx
     × (IsTrue old.in_transaction → HasCleanDisk now → IsTrue now.in_transaction)
     × (IsTrue old.in_transaction → HasCleanDisk now → IsDatabase old.now → Steps (InTurn (StepsBy l.fn.lab.id) (take l.change-index l.changes)) old now)
+    × (IsTrue old.in_transaction → HasCleanDisk now → IsTyped old.now → IsTyped now.now)

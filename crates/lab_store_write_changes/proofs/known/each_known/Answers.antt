@@ -6,6 +6,7 @@ use Rattle.lab_store_write.specs.Calls.{Steps, MadeFrom}
 use Rattle.lab_store_write.proofs.Writers.{nothing_done, stays_then}
 use Rattle.lab_store_write_changes.specs.Framed.{Knows}
 use Rattle.lab_store_write_changes.proofs.KnownSteps.{none_known, one_more_known}
+use Rattle.lab_store_write_changes.proofs.Failures.{one_failed}
 use Rattle.lab_store_write_changes.proofs.known.each_known.Goals as goal
 
 pub loop-change-init : goal.loop-change-init
@@ -13,6 +14,7 @@ loop-change-init g c = (
   nothing_done c.args.tx.now,
   λ inside clean. inside,
   λ spared inside clean typed rules. none_known c.args.lab.id c.args.known.now c.args.id (g.W.Writable.state c.args.tx.now) inside,
+  λ inside clean typed. typed,
 )
 
 pub loop-change-preserved : goal.loop-change-preserved
@@ -31,4 +33,16 @@ loop-change-preserved g c =
           (inv.2 spared inside (early clean) typed rules)
           (subst (λ (one : Change). Steps (MadeFrom (Knows c.args.lab.id c.args.known.now c.args.id) (AppliesWhereKept c.args.lab.id one)) mid new) c.change-item.is
           (did.made (inv.1 inside (early clean)) clean)),
+      λ inside clean typed. ((did.made (inv.1 inside (early clean)) clean).made (inv.3 inside (early clean) typed)).0,
     )
+
+pub returns-in_err-change_known-clause-failed : goal.returns-in_err-change_known-clause-failed
+returns-in_err-change_known-clause-failed g c inside clean typed =
+    let mid = g.W.Writable.state c.loop-change.tx in
+    let new = g.W.Writable.state c.change_known.new.tx in
+    let inv = c.loop-change.invariant in
+    let did = c.in_err-change_known.ensures in
+    let early : HasCleanDisk new → HasCleanDisk mid = λ clean. omega (arith, did.stays.survives.clean) in
+    one_failed g.W.Writable.state c.args.tx.now c.loop-change.tx c.change_known.new.tx c.args.changes.now c.loop-change.change-index c.change-item.result c.change-item.is
+    (omega (arith, c.loop-change-test.true)) inv.0.survives (did.failed (inv.1 inside (early clean)) clean (inv.3 inside (early clean) typed))
+    c.from_residual.result c.from_residual.ensures.1

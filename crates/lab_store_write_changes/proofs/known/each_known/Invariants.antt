@@ -16,3 +16,4 @@ invariant-loop-change g l =
     × (IsTrue old.in_transaction → HasCleanDisk now → IsTrue now.in_transaction)
     × (IsTrue (list_all spares_lab l.changes) → IsTrue old.in_transaction → HasCleanDisk now → IsTyped old.now → IsDatabase old.now
     → Steps (StepsKnowing l.fn.lab.id l.fn.known l.fn.id (take l.change-index l.changes)) old now)
+    × (IsTrue old.in_transaction → HasCleanDisk now → IsTyped old.now → IsTyped now.now)

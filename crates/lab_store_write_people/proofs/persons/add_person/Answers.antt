@@ -1,8 +1,14 @@
 use Rattle.std.proofs.Common.{option_map}
 use Rattle.lab_store_write.specs.Ids.{row_id}
-use Rattle.lab_store_write.proofs.Writers.{and_then}
+use Rattle.lab_store_write.proofs.Writers.{and_then, fails_so, then_fails}
 use Rattle.lab_store_write_people.proofs.PersonLemmas.{person_added}
 use Rattle.lab_store_write_people.proofs.persons.add_person.Goals as goal
+
+pub returns-in_err-asker : goal.returns-in_err-asker
+returns-in_err-asker g c = fails_so c.in_err-asker.ensures c.from_residual.result c.from_residual.ensures.1
+
+pub returns-in_err-insert_person : goal.returns-in_err-insert_person
+returns-in_err-insert_person g c = then_fails c.in_ok-asker.ensures c.in_err-insert_person.ensures c.from_residual-in_err-insert_person.result c.from_residual-in_err-insert_person.ensures.1
 
 pub returns : goal.returns
 returns g c =

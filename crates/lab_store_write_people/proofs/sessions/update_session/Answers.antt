@@ -1,13 +1,16 @@
 use Rattle.std.proofs.Common.{◌≡◌, [], ◌∷◌, ap, ◌∙◌}
 use Rattle.sqlite_value.specs.declared.value.Value.TheVariants.{Blob}
 use Rattle.sqlite.specs.Values.{bound}
-use Rattle.lab_store_write.proofs.Writers.{wrote_as}
+use Rattle.lab_store_write.proofs.Writers.{wrote_as, ran_so}
 use Rattle.lab_store_write_people.specs.Added.{SetsIfAny}
 use Rattle.lab_store_write_people.proofs.SessionWrites.{set_session_text, set_session_values, sets_session}
 use Rattle.lab_store_write_people.proofs.sessions.update_session.Goals as goal
 
-pub returns : goal.returns
-returns g c =
+pub returns-clause-ran : goal.returns-clause-ran
+returns-clause-ran g c inside clean = ran_so (g.W.Writable.state c.args.tx.now) (g.W.Writable.state c.run.new.tx) _ _ c.run.result (c.run.ensures.runs inside clean)
+
+pub returns-clause-writes : goal.returns-clause-writes
+returns-clause-writes g c =
     let old = g.W.Writable.state c.args.tx.now in
     let new = g.W.Writable.state c.run.new.tx in
     let lab = c.args.lab.id in

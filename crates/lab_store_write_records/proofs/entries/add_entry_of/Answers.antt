@@ -1,8 +1,14 @@
-use Rattle.lab_store_write.proofs.Writers.{and_then}
+use Rattle.lab_store_write.proofs.Writers.{and_then, fails_so, then_fails}
 use Rattle.lab_store_write_records.proofs.Added.{entry_added}
 use Rattle.lab_store_write_records.proofs.entries.add_entry_of.Goals as goal
 
+pub returns-in_err-place : goal.returns-in_err-place
+returns-in_err-place g c = fails_so c.in_err-place.ensures.counts c.from_residual.result c.from_residual.ensures.1
+
+pub returns-in_err-insert_entry : goal.returns-in_err-insert_entry
+returns-in_err-insert_entry g c = then_fails c.in_ok-place.ensures.counts c.in_err-insert_entry.ensures c.from_residual-in_err-insert_entry.result c.from_residual-in_err-insert_entry.ensures.1
+
 pub returns : goal.returns
 returns g c =
-    and_then c.in_ok-place.ensures c.in_ok-insert_entry.ensures
+    and_then c.in_ok-place.ensures.counts c.in_ok-insert_entry.ensures
     (entry_added c.args.version.id c.args.entry.now c.args.person.id c.in_ok-place.place _ _ _)

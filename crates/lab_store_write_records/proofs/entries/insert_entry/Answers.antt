@@ -14,8 +14,8 @@ returns g c =
     let old = g.W.Writable.state c.args.tx.now in
     let new = g.W.Writable.state c.run.new.tx in
     let row = entry_at c.args.version.id (next_key entry_id (tables_of old).entries) c.args.place c.args.person.id c.args.entry.now in
-    let given : bound (c.id_value.result ∷ c.in_ok-at.at ∷ c.text_value.result ∷ c.text_value-2.result ∷ c.text_value-3.result ∷ c.id_value-2.result
-    ∷ c.moment_value.result ∷ c.note_or_null.result ∷ []) ≡ entry_values row = λ i. c.id_value.ensures i ∷ c.in_ok-at.ensures i
+    let given : bound (c.id_value.result ∷ c.place_value.result ∷ c.text_value.result ∷ c.text_value-2.result ∷ c.text_value-3.result ∷ c.id_value-2.result
+    ∷ c.moment_value.result ∷ c.note_or_null.result ∷ []) ≡ entry_values row = λ i. c.id_value.ensures i ∷ c.place_value.ensures i
     ∷ (c.text_value.ensures ∙ ap Text c.as_str-key.ensures.value) i ∷ (c.text_value-2.ensures ∙ ap Text c.as_str-value.ensures.value) i
     ∷ (c.text_value-3.ensures ∙ ap Text c.as_str-unit.ensures.value) i ∷ c.id_value-2.ensures i ∷ c.moment_value.ensures i ∷ c.note_or_null.ensures i
     ∷ [] in

@@ -1,9 +1,15 @@
 use Rattle.std.proofs.Common.{subst}
 use Rattle.lab_store_tables.specs.Changes.{InTurn, AddsField}
 use Rattle.lab_store_write.specs.Calls.{Steps}
-use Rattle.lab_store_write.proofs.Writers.{and_then}
+use Rattle.lab_store_write.proofs.Writers.{and_then, fails_so, then_fails}
 use Rattle.lab_store_write_records.proofs.FormsInTurn.{form_added}
 use Rattle.lab_store_write_records.proofs.forms.add_form.Goals as goal
+
+pub returns-in_err-id : goal.returns-in_err-id
+returns-in_err-id g c = fails_so c.in_err-id.ensures c.from_residual.result c.from_residual.ensures.1
+
+pub returns-in_err-add_fields : goal.returns-in_err-add_fields
+returns-in_err-add_fields g c = then_fails c.in_ok-id.ensures c.in_err-add_fields.ensures c.from_residual-in_err-add_fields.result c.from_residual-in_err-add_fields.ensures.1
 
 pub returns : goal.returns
 returns g c =

@@ -14,7 +14,7 @@ returns g c =
     let old = g.W.Writable.state c.args.tx.now in
     let new = g.W.Writable.state c.run.new.tx in
     let row = choice_at c.args.field.id (next_key choice_id (tables_of old).choices) c.args.place c.args.name.now in
-    let given : bound (c.id_value.result ∷ c.in_ok-at.at ∷ c.text_value.result ∷ []) ≡ choice_values row = λ i. c.id_value.ensures i ∷ c.in_ok-at.ensures i
+    let given : bound (c.id_value.result ∷ c.place_value.result ∷ c.text_value.result ∷ []) ≡ choice_values row = λ i. c.id_value.ensures i ∷ c.place_value.ensures i
     ∷ (c.text_value.ensures ∙ ap Text c.as_str.ensures.value) i ∷ [] in
     wrote add_choice_text (choice_values row) (with_choice c.args.field.id c.args.place c.args.name.now) c.run.ensures.stays given c.run.ensures.runs
     (λ count typed did. adds_choice row old new count typed refl did)

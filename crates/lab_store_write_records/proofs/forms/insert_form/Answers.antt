@@ -20,4 +20,4 @@ returns g c =
     ≡ form_values row = λ i. c.id_value.ensures i ∷ (c.text_value.ensures ∙ ap Text c.as_str-code.ensures.value) i ∷ c.ordinal_value.ensures i
     ∷ (c.flag_value.ensures ∙ ap flag c.approval-approval.ensures) i ∷ [] in
     placed add_form_text (form_values row) (with_form c.args.lab.id form) (λ (t : Tables). next_key form_id t.forms)
-    c.insert.ensures.stays given c.insert.ensures.ran (λ count typed did. (adds_form row old new count typed refl did, ids_form row old new count typed did))
+    c.insert.ensures.stays given c.insert.ensures.ran (λ count typed did. (adds_form row old new count typed refl did, ids_form row old new count typed did)) c.insert.ensures.failed

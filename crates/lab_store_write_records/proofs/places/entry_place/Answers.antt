@@ -8,9 +8,9 @@ use Rattle.lab_store_write_records.proofs.VersionsShownWords.{entries_shown}
 use Rattle.lab_store_write_records.proofs.EntryKeyLemmas.{entries_means, entries_read}
 use Rattle.lab_store_write_records.proofs.places.entry_place.Goals as goal
 
-pub returns : goal.returns
-returns g c =
+pub returns-clause-counts : goal.returns-clause-counts
+returns-clause-counts g c =
     let parent = c.args.parent.id in
     let rows = λ (t : Tables). filter (is_entry_of parent) t.entries in
-    place_found entries_means.read (entries_shown parent) (λ t. length (rows t)) c.place_below.ensures (λ found. entries_read _ _ parent found)
+    place_found entries_means.read (entries_shown parent) (λ t. length (rows t)) c.place_below.ensures.counts (λ found. entries_read _ _ parent found)
     (λ t. length-map (rows t) (λ (one : EntryRow). Int one.id ∷ []))

@@ -8,9 +8,9 @@ use Rattle.lab_store_write_records.proofs.VersionsShownWords.{signatures_shown}
 use Rattle.lab_store_write_records.proofs.EntryKeyLemmas.{signatures_means, signatures_read}
 use Rattle.lab_store_write_records.proofs.places.signature_place.Goals as goal
 
-pub returns : goal.returns
-returns g c =
+pub returns-clause-counts : goal.returns-clause-counts
+returns-clause-counts g c =
     let parent = c.args.parent.id in
     let rows = λ (t : Tables). filter (is_signature_of parent) t.signatures in
-    place_found signatures_means.read (signatures_shown parent) (λ t. length (rows t)) c.place_below.ensures (λ found. signatures_read _ _ parent found)
+    place_found signatures_means.read (signatures_shown parent) (λ t. length (rows t)) c.place_below.ensures.counts (λ found. signatures_read _ _ parent found)
     (λ t. length-map (rows t) (λ (one : SignatureRow). Int one.id ∷ []))

@@ -18,8 +18,8 @@ returns g c =
     let kept = c.args.kept.now in
     let row = record_row_of c.args.lab.id (next_key record_id (tables_of old).records) c.args.form.id kept in
     let given : bound (c.id_value.result ∷ c.ordinal_value.result ∷ c.id_value-2.result ∷ c.text_value.result ∷ c.text_value-2.result
-    ∷ c.in_ok-current.current ∷ []) ≡ record_values row = λ i. c.id_value.ensures i ∷ c.ordinal_value.ensures i ∷ c.id_value-2.ensures i
+    ∷ c.place_value.result ∷ []) ≡ record_values row = λ i. c.id_value.ensures i ∷ c.ordinal_value.ensures i ∷ c.id_value-2.ensures i
     ∷ (c.text_value.ensures ∙ ap Text c.as_str-code.ensures.value) i ∷ (c.text_value-2.ensures ∙ ap Text c.as_str-sample.ensures.value) i
-    ∷ (c.in_ok-current.ensures ∙ ap (λ (versions : List Version). number (length versions)) c.as_slice-versions.ensures) i ∷ [] in
+    ∷ (c.place_value.ensures ∙ ap (λ (versions : List Version). number (length versions)) c.as_slice-versions.ensures) i ∷ [] in
     placed add_record_text (record_values row) (with_record c.args.lab.id c.args.form.id kept) (λ (t : Tables). next_key record_id t.records)
-    c.insert.ensures.stays given c.insert.ensures.ran (λ count typed did. (adds_record row old new count typed refl did, ids_record row old new count typed did))
+    c.insert.ensures.stays given c.insert.ensures.ran (λ count typed did. (adds_record row old new count typed refl did, ids_record row old new count typed did)) c.insert.ensures.failed

@@ -1,8 +1,14 @@
-use Rattle.lab_store_write.proofs.Writers.{and_then}
+use Rattle.lab_store_write.proofs.Writers.{and_then, fails_so, then_fails}
 use Rattle.lab_store_write_records.proofs.Added.{signature_added}
 use Rattle.lab_store_write_records.proofs.signatures.add_signature_of.Goals as goal
 
+pub returns-in_err-place : goal.returns-in_err-place
+returns-in_err-place g c = fails_so c.in_err-place.ensures.counts c.from_residual.result c.from_residual.ensures.1
+
+pub returns-in_err-insert_signature : goal.returns-in_err-insert_signature
+returns-in_err-insert_signature g c = then_fails c.in_ok-place.ensures.counts c.in_err-insert_signature.ensures c.from_residual-in_err-insert_signature.result c.from_residual-in_err-insert_signature.ensures.1
+
 pub returns : goal.returns
 returns g c =
-    and_then c.in_ok-place.ensures c.in_ok-insert_signature.ensures
+    and_then c.in_ok-place.ensures.counts c.in_ok-insert_signature.ensures
     (signature_added c.args.version.id c.args.signature.now c.args.person.id c.in_ok-place.place _ _ _)

@@ -1,10 +1,13 @@
 use Rattle.std.proofs.Common.{◌≡◌, Some}
 use Rattle.lab_store_write.specs.declared.statements.RowId.{RowId}
 use Rattle.lab_store_write.proofs.Inside.{steps_weaker}
-use Rattle.lab_store_write.proofs.Writers.{and_given, answers_as}
+use Rattle.lab_store_write.proofs.Writers.{and_given, answers_as, fails_so}
 use Rattle.lab_store_write_records.specs.VersionsShown.{version_in_record}
 use Rattle.lab_store_write_records.proofs.Added.{version_signed}
 use Rattle.lab_store_write_records.proofs.signatures.sign_version_of.Goals as goal
+
+pub returns-in_err-signed : goal.returns-in_err-signed
+returns-in_err-signed g c = fails_so c.in_err-signed.ensures c.from_residual.result c.from_residual.ensures.1
 
 pub returns : goal.returns
 returns g c =

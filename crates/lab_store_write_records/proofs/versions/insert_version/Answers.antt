@@ -24,4 +24,4 @@ returns g c =
     ∷ (c.small_value.ensures ∙ ap number c.format_number-format.ensures) i ∷ c.id_value-2.ensures i ∷ c.moment_value.ensures i
     ∷ (c.cause_or_null.ensures ∙ ap cause c.amendment.ensures.value) i ∷ [] in
     placed add_version_text (version_values row) (with_version c.args.kept.id c.args.opener.id version) (λ (t : Tables). next_key version_id t.versions)
-    c.insert.ensures.stays given c.insert.ensures.ran (λ count typed did. (adds_version row old new count typed refl did, ids_version row old new count typed did))
+    c.insert.ensures.stays given c.insert.ensures.ran (λ count typed did. (adds_version row old new count typed refl did, ids_version row old new count typed did)) c.insert.ensures.failed

@@ -1,0 +1,74 @@
+-- Why a call fails: by its last statement, behind the calls before it.
+use Rattle.std.proofs.Common.{◌≡◌, ◌⊎◌, inl, inr, ℕ, ℤ, ◌<◌, Bool, map, true, false, List, [], ◌∷◌, length, slice_get, None, Some, Option, Ok, Err, Result, IfOk, IfErr, IsTrue, IsFalse, refl, sym, ap, subst, ◌∙◌, arith}
+use Rattle.std.specs.Prelude.{Vec, IsErrAnd, IfSome}
+use Rattle.std.specs.declared.alloc.Global.{Global}
+use Rattle.sqlite_value.specs.declared.value.Value.{Value}
+use Rattle.sqlite_value.specs.declared.value.Value.TheVariants.{Null, Int, Real, Text, Blob}
+use Rattle.sqlite_value.specs.Order.{Row, column}
+use Rattle.sqlite.specs.declared.error.Error.{Error}
+use Rattle.sqlite.specs.declared.error.Error.TheVariants.{SqliteFailure, QueryReturnedNoRows}
+use Rattle.sqlite.specs.declared.error.ErrorCode.TheVariants as code
+use Rattle.sqlite.specs.Values.{IsInt}
+use Rattle.sqlite.specs.State.{State, Survives, ExecutesInside, Shown, FailsToQuery, IsTooLate}
+use Rattle.lab_store_read.specs.Faults.{is_out_of_memory}
+use Rattle.lab_store_write.specs.Causes.{names_one, IsVain, IsUnread, IsUnnamed, IsShown, IsRun, IsRefused, IsNamedInVain, EndsBy, FailsBy}
+use Rattle.lab_store_write.proofs.Inside.{none_then}
+
+pub unmoved : (s : State) → Survives s s (λ _. ⊥)
+unmoved s = record {
+  clean = omega arith;
+  shield = λ h. h;
+  counts = omega arith;
+  limit = refl;
+  closes = λ _ opened. inl opened;
+  crash = λ _ db left. inl left;
+}
+
+-- what went wrong in r went wrong in another result
+pub passed : {B E : Type 0} (P : E → Type 0) {e : E} → P e → (r : Result B E) → IsErrAnd r (λ d. d ≡ e) → IfErr r P
+passed P it (Ok x) failed = absurd failed
+passed P it (Err d) failed = subst P (sym failed) it
+
+module _ {T : Type 0} (state : T → State) where
+  -- by the one statement of the call
+  pub fails_here : (a b : T) (e : Error) → IsRefused (state a) (state b) e ⊎ IsNamedInVain (state a) (state b) e → FailsBy state a b e
+  fails_here a b e why = inr (record { last = a; led = unmoved (state a); why = why })
+
+  pub ran_badly : (sql : List ℕ) (params : Row) (a b : T) (e : Error) → ExecutesInside 0 sql params (state a) (state b) (Err e) → FailsBy state a b e
+  ran_badly sql params a b e ran = fails_here a b e (inl (record { sql = sql; params = params; refused = inl ran }))
+
+  pub asked_badly : (sql : List ℕ) (params : Row) (a b : T) (e : Error) → FailsToQuery sql params (state a) (state b) e ⊎ IsTooLate sql params (state a) (state b) e → FailsBy state a b e
+  asked_badly sql params a b e asked = fails_here a b e (inl (record { sql = sql; params = params; refused = inr asked }))
+
+  -- behind other calls
+  pub fails_behind : (a b c : T) (e : Error) → Survives (state a) (state b) (λ _. ⊥) → FailsBy state b c e → FailsBy state a c e
+  fails_behind a b c e led (inl memory) = inl memory
+  fails_behind a b c e led (inr it) = inr (record { last = it.last; led = none_then (state a) (state b) (state it.last) led it.led; why = it.why })
+
+-- ---- an id that isn't read
+
+-- a row that shows an id is read, unless memory ran out
+pub unread_row : (row : Row) (e : Error) → ((e ≡ SqliteFailure code.OutOfMemory → ⊥) → 0 < length row → ¬ IsInt (column row 0)) → IsUnread row e
+unread_row [] e h = inr refl
+unread_row (Null ∷ row) e h = inr refl
+unread_row (Int n ∷ row) e h = by (is_out_of_memory e) refl
+  where
+    by : (b : Bool) → is_out_of_memory e ≡ b → IsUnread (Int n ∷ row) e
+    by true is = inl is
+    by false is = absurd (h (λ same. let wrong = ap is_out_of_memory same in cc) (omega arith) (n, refl))
+unread_row (Real x ∷ row) e h = inr refl
+unread_row (Text t ∷ row) e h = inr refl
+unread_row (Blob b ∷ row) e h = inr refl
+
+-- where each row shows the id of what is found
+unnamed_among : {X : Type 0} (key : X → ℤ) (xs : List X) (e : Error) → IsUnnamed (map (λ (x : X). Int (key x) ∷ []) xs) e → IsVain (map (λ (x : X). Int (key x) ∷ []) xs) e
+unnamed_among key [] e (inl it) = inr (it.1, refl)
+unnamed_among key [] e (inr it) = absurd it
+unnamed_among key (x ∷ xs) e (inl it) = absurd (let wrong = it.0 in cc)
+unnamed_among key (x ∷ xs) e (inr (inl memory)) = inl memory
+unnamed_among key (x ∷ xs) e (inr (inr unread)) = absurd (let wrong = unread in cc)
+
+pub unnamed_vainly : {X B : Type 0} (key : X → ℤ) (xs : List X) (slice rows : List Row) → slice ≡ rows → rows ≡ map (λ (x : X). Int (key x) ∷ []) xs → (r : Result B Error)
+    → IfErr r (IsUnnamed slice) → IfErr r (IsVain rows)
+unnamed_vainly key xs slice rows same are (Ok b) bad = tt
+unnamed_vainly key xs slice rows same are (Err e) bad = subst (λ (l : List Row). IsVain l e) (sym are) (unnamed_among key xs e (subst (λ (l : List Row). IsUnnamed l e) (same ∙ are) bad))

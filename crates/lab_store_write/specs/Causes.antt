@@ -1,0 +1,70 @@
+-- Why a call inside a transaction fails: memory ran out, or the transaction refused the last
+-- statement of the call, or that statement finds no row of what is named.
+use Rattle.std.specs.Prelude.{◌≡◌, ◌⊎◌, ◌^◌, ◌≤◌, ℕ, Bool, false, List, None, Ok, Err, IsSomeAnd, IsTrue, IsFalse, slice_get}
+use Rattle.std.specs.Option.{option_map_or}
+use Rattle.sqlite_value.specs.Order.{Row}
+use Rattle.sqlite.specs.declared.error.Error.{Error}
+use Rattle.sqlite.specs.declared.error.Error.TheVariants.{QueryReturnedNoRows}
+use Rattle.sqlite.specs.State.{State, Survives, Shown, ExecutesInside, FailsToQuery, IsTooLate}
+use Rattle.lab_store_read.specs.Cells.{is_id, stands}
+use Rattle.lab_store_read.specs.Faults.{is_out_of_memory}
+
+-- the row shows an id first
+abbrev pub shows_id : Row → Bool
+shows_id row = stands is_id row 0
+
+-- there is a first row, and it shows an id
+abbrev pub names_one : List Row → Bool
+names_one rows = option_map_or shows_id (slice_get rows 0) false
+
+-- none is named by these rows, or memory ran out for it
+abbrev pub IsVain : List Row → Error → Type 0
+IsVain rows e =
+    IsTrue (is_out_of_memory e) ⊎ ((e ≡ QueryReturnedNoRows) × IsFalse (names_one rows))
+
+-- why an id isn't read of a row, and none of the first of some rows
+abbrev pub IsUnread : Row → Error → Type 0
+IsUnread row e = IsTrue (is_out_of_memory e) ⊎ IsFalse (shows_id row)
+
+abbrev pub IsUnnamed : List Row → Error → Type 0
+IsUnnamed rows e =
+    ((slice_get rows 0 ≡ None) × (e ≡ QueryReturnedNoRows))
+    ⊎ IsSomeAnd (slice_get rows 0) (λ row. IsUnread row e)
+
+-- a statement from here to there shows these rows
+pub record IsShown (old new : State) (rows : List Row) : Type 0 where
+  pub sql : List ℕ
+  pub params : Row
+  pub shown : Shown sql params old new rows
+
+-- a statement from here to there has written so many rows
+pub record IsRun (old new : State) (count : ℕ) : Type 0 where
+  pub sql : List ℕ
+  pub params : Row
+  pub ran : ExecutesInside 0 sql params old new (Ok count)
+
+-- a statement from here to there was refused with the error
+pub record IsRefused (old new : State) (e : Error) : Type 0 where
+  pub sql : List ℕ
+  pub params : Row
+  pub refused : ExecutesInside 0 sql params old new (Err e)
+      ⊎ (FailsToQuery sql params old new e ⊎ IsTooLate sql params old new e)
+
+-- it names a row that isn't there: it sets none, or shows none with an id
+pub record IsNamedInVain (old new : State) (e : Error) : Type 0 where
+  pub told : e ≡ QueryReturnedNoRows
+  pub vain : IsRun old new 0
+      ⊎ ((rows : List Row) × IsShown old new rows × IsFalse (names_one rows))
+
+-- so was the last statement of a call, which committed nothing before
+pub record EndsBy {T : Type 0} (state : T → State) (old new : T) (e : Error) : Type 0 where
+  pub last : T
+  pub led : Survives (state old) (state last) (λ _. ⊥)
+  pub why : IsRefused (state last) (state new) e ⊎ IsNamedInVain (state last) (state new) e
+
+abbrev pub FailsBy : {T : Type 0} → (T → State) → T → T → Error → Type 0
+FailsBy state old new e = IsTrue (is_out_of_memory e) ⊎ EndsBy state old new e
+
+-- no column holds a number as great as this
+abbrev pub IsTooGreat : ℕ → Type 0
+IsTooGreat count = 2 ^ 63 ≤ count
