@@ -4,7 +4,7 @@ use Rattle.std.specs.Prelude.{All}
 use Rattle.sqlite.specs.Effect.{Database}
 use Rattle.sqlite.specs.State.{State, HasCleanDisk}
 use Rattle.lab_store_tables.specs.Rows.{Tables}
-use Rattle.lab_move_tables.specs.Reading.{ReadsOld}
+use Rattle.lab_move_tables.specs.Reading.{ReadsAs}
 use Rattle.lab_move_tables.proofs.OldReaders.{may_then, stands_since}
 use Rattle.lab_move_files.specs.Commits.{MakesAtOnce}
 use Rattle.lab_move_files.specs.Unfinished.{Finishes}
@@ -17,54 +17,54 @@ use Rattle.lab_move.proofs.Steps.{step_more, steps_as, steps_fail}
 
 -- ---- finished behind the last one
 
-pub counted : {E F : Type 0} (codes : List (List ℕ)) {old mid new : State} {r : Result ℕ F}
-    → ReadsOld {T = Unit {0}} {E = E} (λ t _. All (IsSoundIn t) codes) old mid (Ok tt)
-    → ReadsOld (λ t count. count ≡ length codes) mid new r → ReadsOld (AreCounted codes) old new r
+pub counted : {Stands : Database → Tables → Type 0} {E F : Type 0} (codes : List (List ℕ)) {old mid new : State} {r : Result ℕ F}
+    → ReadsAs Stands {T = Unit {0}} {E = E} (λ t _. All (IsSoundIn t) codes) old mid (Ok tt)
+    → ReadsAs Stands (λ t count. count ≡ length codes) mid new r → ReadsAs Stands (AreCounted codes) old new r
 counted codes read next = may_then read next (λ t file all n is. (sym is, all))
 
-pub finishes_all : {B E F : Type 0} (codes : List (List ℕ)) {before after old mid new : State} {r : Result B F}
-    → Fills {A = Unit {0}} {E = E} (HasThese before after codes) (Ok tt) old mid
-    → MakesAtOnce (Finishes mid.now) r mid new → FillsAll (IsWholeOf before after codes) r old new
-finishes_all codes {before} {after} {old} {mid} p q =
+pub finishes_all : {Stands : Database → Tables → Type 0} {B E F : Type 0} (codes : List (List ℕ)) {before after old mid new : State} {r : Result B F}
+    → Fills {A = Unit {0}} {E = E} (HasThese Stands before after codes) (Ok tt) old mid
+    → MakesAtOnce (Finishes mid.now) r mid new → FillsAll (IsWholeOf Stands before after codes) r old new
+finishes_all {Stands} codes {before} {after} {old} {mid} p q =
     step_more (steps_as (Ok tt) p (λ db h begun. inl (h begun)) (λ db h. h)) q (λ h begun. (h begun).file)
     (λ db h next begun. inr (finished before after codes mid.now db next (h begun)))
     (λ db h next begun. finished before after codes mid.now db next (h begun))
 
 -- by what was read up to a later moment
-pub all_later : {B F : Type 0} (codes : List (List ℕ)) (r : Result B F) {before after late old new : State} → (HasCleanDisk late → HasCleanDisk after)
-    → FillsAll (IsWholeOf before after codes) r old new → FillsAll (IsWholeOf before late codes) r old new
-all_later codes r {before} {after} {late} clean it =
+pub all_later : {Stands : Database → Tables → Type 0} {B F : Type 0} (codes : List (List ℕ)) (r : Result B F) {before after late old new : State} → (HasCleanDisk late → HasCleanDisk after)
+    → FillsAll (IsWholeOf Stands before after codes) r old new → FillsAll (IsWholeOf Stands before late codes) r old new
+all_later {Stands} codes r {before} {after} {late} clean it =
     steps_as r it (λ db h begun. elim (h begun) [ inl filling ↦ inl filling | inr whole ↦ inr (later db whole) ]) (λ db h begun. later db (h begun))
   where
-    later : (db : Database) → IsWholeOf before after codes db → IsWholeOf before late codes db
+    later : (db : Database) → IsWholeOf Stands before after codes db → IsWholeOf Stands before late codes db
     later db whole = record { file = whole.file; sound = whole.sound; same = λ t so. whole.same t (so.0, clean so.1) }
 
-pub fails_all : {A B E F : Type 0} (codes : List (List ℕ)) {before after old new : State} {e : E} (f : F)
-    → Fills {A = A} (HasThese before after codes) (Err e) old new
-    → FillsAll {A = B} (IsWholeOf before after codes) (Err f) old new
+pub fails_all : {Stands : Database → Tables → Type 0} {A B E F : Type 0} (codes : List (List ℕ)) {before after old new : State} {e : E} (f : F)
+    → Fills {A = A} (HasThese Stands before after codes) (Err e) old new
+    → FillsAll {A = B} (IsWholeOf Stands before after codes) (Err f) old new
 fails_all codes f p = steps_fail f p (λ db h begun. inl (h begun))
 
 -- ---- of the codes that were read
 
-module _ {E : Type 0} (codes : List (List ℕ)) (before mid after : State) (read : ReadsOld {E = E} (λ t made. made ≡ codes_of t) before mid (Ok codes)) where
-  pub all_counted : {F : Type 0} {r : Result ℕ F} → ReadsOld (AreCounted codes) mid after r → ReadsOld (λ t. AreCounted (codes_of t) t) before after r
+module _ {Stands : Database → Tables → Type 0} {E : Type 0} (codes : List (List ℕ)) (before mid after : State) (read : ReadsAs Stands {E = E} (λ t made. made ≡ codes_of t) before mid (Ok codes)) where
+  pub all_counted : {F : Type 0} {r : Result ℕ F} → ReadsAs Stands (AreCounted codes) mid after r → ReadsAs Stands (λ t. AreCounted (codes_of t) t) before after r
   all_counted next = may_then read next (λ t file is count it. subst (λ l. AreCounted l t count) is it)
 
   module _ (clean : HasCleanDisk after → HasCleanDisk mid) where
-    pub all_filled : {B F : Type 0} (r : Result B F) {old new : State} → FillsAll (IsWholeOf mid after codes) r old new
-        → FillsAll (IsWhole before after) r old new
+    pub all_filled : {B F : Type 0} (r : Result B F) {old new : State} → FillsAll (IsWholeOf Stands mid after codes) r old new
+        → FillsAll (IsWhole Stands before after) r old new
     all_filled r it =
         steps_as r it (λ db h begun. elim (h begun) [ inl filling ↦ inl filling | inr whole ↦ inr (whole_is before mid after codes db read clean whole) ])
         (λ db h begun. whole_is before mid after codes db read clean (h begun))
 
-    pub all_blamed : {A : Type 0} (r : Result A MoveFault) → IfErr r (BlamesFirst mid after codes) → IfErr r (BlamesFirstOfAll before after)
+    pub all_blamed : {A : Type 0} (r : Result A MoveFault) → IfErr r (BlamesFirst Stands mid after codes) → IfErr r (BlamesFirstOfAll Stands before after)
     all_blamed r it = errs_as r (λ one first t so.
         let late = clean so.1 in
-        let here : IsFirstUnsound t codes one = first t (stands_since (read.shows late) t so.0, so.1) in
+        let here : IsFirstUnsound t codes one = first t (stands_since Stands (read.shows late) t so.0, so.1) in
         subst (λ l. IsFirstUnsound t l one) (read.answer t so.0 late) here) it
 
 -- after a call that read nothing of the tables
-pub read_on : {A B E F : Type 0} {Is : Tables → B → Type 0} {old mid new : State} {a : A} {r : Result B F}
-    → ReadsOld {E = E} (λ t x. Unit {0}) old mid (Ok a) → ReadsOld Is mid new r
-    → ReadsOld Is old new r
+pub read_on : {Stands : Database → Tables → Type 0} {A B E F : Type 0} {Is : Tables → B → Type 0} {old mid new : State} {a : A} {r : Result B F}
+    → ReadsAs Stands {E = E} (λ t x. Unit {0}) old mid (Ok a) → ReadsAs Stands Is mid new r
+    → ReadsAs Stands Is old new r
 read_on p q = may_then p q (λ t file it b is. is)

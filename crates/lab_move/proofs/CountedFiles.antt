@@ -6,7 +6,7 @@ use Rattle.sqlite.specs.State.{State, HasCleanDisk}
 use Rattle.lab_store_tables.specs.Rows.{Tables}
 use Rattle.lab_store_tables.specs.Held.{IsTyped}
 use Rattle.lab_store_tables.specs.Ready.{IsAtRest, IsMadeBy, tables_of}
-use Rattle.lab_move_tables.specs.Reading.{ReadsOld}
+use Rattle.lab_move_tables.specs.Reading.{ReadsAs}
 use Rattle.lab_move_laws.specs.Namings.{NamesSchema}
 use Rattle.lab_move_files.specs.Commits.{MakesAtOnce}
 use Rattle.lab_move_files.specs.Unfinished.{Begins, Finishes, IsBeingFilled}
@@ -24,7 +24,7 @@ on_err (Ok a) f p = tt
 on_err (Err e) f p = f p
 
 -- a commit after a call that read
-module _ {A E : Type 0} {a : A} {old mid : State} (read : ReadsOld {E = E} (λ t x. Unit {0}) old mid (Ok a)) where
+module _ {Stands : Database → Tables → Type 0} {A E : Type 0} {a : A} {old mid : State} (read : ReadsAs Stands {E = E} (λ t x. Unit {0}) old mid (Ok a)) where
   pub finishes_then : {B F : Type 0} (r : Result B F) {new : State} → MakesAtOnce (Finishes mid.now) r mid new → MakesAtOnce (Finishes old.now) r old new
   finishes_then r {new} q = record {
     once = record {
@@ -46,7 +46,7 @@ module _ {A E : Type 0} {a : A} {old mid : State} (read : ReadsOld {E = E} (λ t
   }
 
 -- one that read and gave no answer
-pub fails_then : {T A E F : Type 0} {Made : Database → Type 0} {e : E} {f : F} {old mid : State} → IsAtRest old → ReadsOld {T = T} (λ t x. Unit {0}) old mid (Err e)
+pub fails_then : {Stands : Database → Tables → Type 0} {T A E F : Type 0} {Made : Database → Type 0} {e : E} {f : F} {old mid : State} → IsAtRest old → ReadsAs Stands {T = T} (λ t x. Unit {0}) old mid (Err e)
     → MakesAtOnce Made {A = A} (Err f) old mid
 fails_then rest read = record {
   once = record { at_rest = read.passes.at_rest rest; clean = read.passes.clean; crash = λ clean opened trees left. inl (read.passes.crash clean opened trees left) };
@@ -75,7 +75,7 @@ pub counted_since : {B F : Type 0} (r : Result B F) (before mid : Database) (t :
 counted_since r before mid t same it = on_ok r (subst (λ (db : Database). HasAsMany db t) same) it
 
 -- a file that was filled is one that is being filled
-pub filling_of : {E : Type 0} (codes : List (List ℕ)) {before after old mid : State} → Fills {A = Unit {0}} {E = E} (HasThese before after codes) (Ok tt) old mid
+pub filling_of : {Stands : Database → Tables → Type 0} {E : Type 0} (codes : List (List ℕ)) {before after old mid : State} → Fills {A = Unit {0}} {E = E} (HasThese Stands before after codes) (Ok tt) old mid
     → HasCleanDisk mid → IsTrue old.is_open → IsBegun old.now → IsBeingFilled mid.now
 filling_of codes p clean opened begun = ((p.made clean opened).1 begun).file
 

@@ -7,7 +7,7 @@ use Rattle.sqlite.specs.Effect.{Database}
 use Rattle.sqlite.specs.State.{State, HasCleanDisk}
 use Rattle.lab_store_tables.specs.Rows.{Tables}
 use Rattle.lab_store_tables.specs.Ready.{IsAtRest}
-use Rattle.lab_move_tables.specs.Reading.{ReadsOld}
+use Rattle.lab_move_tables.specs.Reading.{ReadsAs}
 use Rattle.lab_move_tables.proofs.OldReaders.{none_read, may_both, may_and, stands_since}
 use Rattle.lab_move_files.specs.Commits.{MakesAtOnce}
 use Rattle.lab_move_files.proofs.Commits.{told_ok}
@@ -18,42 +18,42 @@ use Rattle.lab_move.proofs.OneLab.{blames_as}
 use Rattle.lab_move.proofs.Steps.{no_step, step_more, steps_fail, steps_ok}
 
 -- those so far are in the new file
-pub record HasMoved (done : List (List ℕ)) (old now was is : State) : Type 0 where
-  pub reads : ReadsOld {T = Unit {0}} {E = ⊥} (λ t _. All (IsSoundIn t) done) old now (Ok tt)
-  pub fills : Fills {A = Unit {0}} {E = ⊥} (HasThese old now done) (Ok tt) was is
+pub record HasMoved (Stands : Database → Tables → Type 0) (done : List (List ℕ)) (old now was is : State) : Type 0 where
+  pub reads : ReadsAs Stands {T = Unit {0}} {E = ⊥} (λ t _. All (IsSoundIn t) done) old now (Ok tt)
+  pub fills : Fills {A = Unit {0}} {E = ⊥} (HasThese Stands old now done) (Ok tt) was is
 
-pub none_moved : (old was : State) → IsAtRest was → HasMoved [] old old was was
+pub none_moved : {Stands : Database → Tables → Type 0} (old was : State) → IsAtRest was → HasMoved Stands [] old old was was
 none_moved old was rest = record { reads = none_read (λ t. All-nil (IsSoundIn t)); fills = no_step tt was rest (none_carried old old was.now) }
 
 -- the files at both ends of a reading have the same rows
-same_rows : {A E : Type 0} {Was : Tables → A → Type 0} {old now : State} {a : A} → ReadsOld {E = E} Was old now (Ok a) → HasCleanDisk now → now.now ≡ old.now
+same_rows : {Stands : Database → Tables → Type 0} {A E : Type 0} {Was : Tables → A → Type 0} {old now : State} {a : A} → ReadsAs Stands {E = E} Was old now (Ok a) → HasCleanDisk now → now.now ≡ old.now
 same_rows it clean = it.shows clean
 
-module _ {done : List (List ℕ)} {old mid was is : State} (so : HasMoved done old mid was is) (code : List ℕ) where
+module _ {Stands : Database → Tables → Type 0} {done : List (List ℕ)} {old mid was is : State} (so : HasMoved Stands done old mid was is) (code : List ℕ) where
   -- what the next one makes of it
   pub next_fills : {A F : Type 0} {r : Result A F} {now new : State} → (HasCleanDisk now → HasCleanDisk mid)
-      → MakesAtOnce (CarriesFrom mid now code is.now) r is new
-      → Fills (HasThese old now (done ++ code ∷ [])) r was new
+      → MakesAtOnce (CarriesFrom Stands mid now code is.now) r is new
+      → Fills (HasThese Stands old now (done ++ code ∷ [])) r was new
   next_fills {now = now} {new = new} clean it =
-      let made = λ (db : Database) (h : IsBegun was.now → HasThese old mid done is.now) (next : CarriesFrom mid now code is.now db) (begun : IsBegun was.now).
+      let made = λ (db : Database) (h : IsBegun was.now → HasThese Stands old mid done is.now) (next : CarriesFrom Stands mid now code is.now db) (begun : IsBegun was.now).
       one_carried old mid now done code is.now db clean so.reads.shows next (h begun) in
       step_more so.fills it (λ h begun. (h begun).file) (λ db h next begun. (made db h next begun).file) made
 
-  pub one_moved : {F : Type 0} {now new : State} → ReadsOld {T = Unit {0}} {E = F} (λ t _. IsSoundIn t code) mid now (Ok tt)
-      → MakesAtOnce (CarriesFrom mid now code is.now) {A = Unit {0}} {E = F} (Ok tt) is new → HasMoved (done ++ code ∷ []) old now was new
+  pub one_moved : {F : Type 0} {now new : State} → ReadsAs Stands {T = Unit {0}} {E = F} (λ t _. IsSoundIn t code) mid now (Ok tt)
+      → MakesAtOnce (CarriesFrom Stands mid now code is.now) {A = Unit {0}} {E = F} (Ok tt) is new → HasMoved Stands (done ++ code ∷ []) old now was new
   one_moved {now = now} {new = new} read it = record {
     reads = may_both so.reads read (λ t file all one. All-push (IsSoundIn t) done code all one);
     fills = next_fills read.passes.clean (told_ok tt tt it);
   }
 
   -- where it failed
-  module _ {A F : Type 0} {now : State} {r : Result A F} (read : ReadsOld (λ t _. IsSoundIn t code) mid now r) where
+  module _ {A F : Type 0} {now : State} {r : Result A F} (read : ReadsAs Stands (λ t _. IsSoundIn t code) mid now r) where
     pub blamed_first : (codes rest : List (List ℕ)) → codes ≡ done ++ code ∷ rest → (one : List ℕ)
-        → (one ≡ code) × ((t : Tables) → ReadsOldAs mid now t → IsUnsoundIn t code)
-        → (t : Tables) → ReadsOldAs old now t → IsFirstUnsound t codes one
+        → (one ≡ code) × ((t : Tables) → ReadsOldAs Stands mid now t → IsUnsoundIn t code)
+        → (t : Tables) → ReadsOldAs Stands old now t → IsFirstUnsound t codes one
     blamed_first codes rest split one it t here =
         let clean = read.passes.clean here.1 in
-        let unsound : IsUnsoundIn t code = it.1 t (stands_since (so.reads.shows clean) t here.0, here.1) in (
+        let unsound : IsUnsoundIn t code = it.1 t (stands_since Stands (so.reads.shows clean) t here.0, here.1) in (
           done,
           rest,
           subst (λ c. codes ≡ done ++ c ∷ rest) (sym it.0) split,
@@ -85,11 +85,11 @@ grown xs i x d lt is = ap (λ it. take i xs ++ it ∷ []) is ∙ sym (take_more 
 
 -- ---- all of them
 
-pub all_read : {F : Type 0} {done codes : List (List ℕ)} {old now was is : State} → HasMoved done old now was is → done ≡ codes
-    → ReadsOld {T = Unit {0}} {E = F} (λ t _. All (IsSoundIn t) codes) old now (Ok tt)
+pub all_read : {Stands : Database → Tables → Type 0} {F : Type 0} {done codes : List (List ℕ)} {old now was is : State} → HasMoved Stands done old now was is → done ≡ codes
+    → ReadsAs Stands {T = Unit {0}} {E = F} (λ t _. All (IsSoundIn t) codes) old now (Ok tt)
 all_read so same = may_and so.reads (λ t file all. subst (All (IsSoundIn t)) same all)
 
-pub all_filled : {F : Type 0} {done codes : List (List ℕ)} {old now was is : State} → HasMoved done old now was is → done ≡ codes
-    → Fills {A = Unit {0}} {E = F} (HasThese old now codes) (Ok tt) was is
-all_filled {F} {done} {codes} {old} {now} {was} {is} so same =
-    steps_ok tt (subst (λ l. Fills {A = Unit {0}} {E = ⊥} (HasThese old now l) (Ok tt) was is) same so.fills)
+pub all_filled : {Stands : Database → Tables → Type 0} {F : Type 0} {done codes : List (List ℕ)} {old now was is : State} → HasMoved Stands done old now was is → done ≡ codes
+    → Fills {A = Unit {0}} {E = F} (HasThese Stands old now codes) (Ok tt) was is
+all_filled {Stands} {F} {done} {codes} {old} {now} {was} {is} so same =
+    steps_ok tt (subst (λ l. Fills {A = Unit {0}} {E = ⊥} (HasThese Stands old now l) (Ok tt) was is) same so.fills)

@@ -9,11 +9,13 @@ use Rattle.lab_records_kept.specs.Limits.{IsWithin}
 use Rattle.lab_records_copy_out.specs.Legible.{IsLegible}
 use Rattle.lab_records_laws.specs.Runs.{IsReleasing}
 use Rattle.lab_store_tables.specs.Meaning.{meaning}
+use Rattle.lab_store_tables.specs.Rows.{Tables}
 use Rattle.lab_store_tables.specs.Ready.{IsAtRest, tables_of}
 use Rattle.lab_store_files.specs.NewFiles.{IsBlank}
 use Rattle.lab_move_files.specs.Commits.{MakesAtOnce}
 use Rattle.lab_move_files.specs.Unfinished.{Begins, IsBeingFilled}
 use Rattle.lab_move_files.proofs.Refusals.{unnamed_refused, blank_refused}
+use Rattle.lab_move.specs.OldFiles.{StandsFor}
 use Rattle.lab_move.specs.Moving.{IsBegun, FillsAll, IsNoInstallation, IsSoundLab, IsStart, IsWhole, LeavesUnfinished}
 use Rattle.lab_move.proofs.FilledFiles.{all_weaker, carried_from}
 
@@ -30,7 +32,7 @@ module _ {S : Type 0} (g : Ghosts S) where
 
 -- ---- all that a start asks
 
-pub starts : (before after s : State) → IsAtRest s → IsTrue s.is_open → IsWhole before after s.now → IsStart s
+pub starts : {Stands : Database → Tables → Type 0} (before after s : State) → IsAtRest s → IsTrue s.is_open → IsWhole Stands before after s.now → IsStart s
 starts before after s rest opened whole = record {
   live = opened;
   ready = record { at_rest = rest; kept = λ clean opened. whole.file };
@@ -61,9 +63,10 @@ module _ {S : Type 0} (g : Ghosts S) {old new : State} (blank : IsBlank old.now)
 
 -- ---- where it was
 
-module _ {S : Type 0} (g : Ghosts S) {A B E F : Type 0} {a : A} {r : Result B F} {old mid new : State} (blank : IsBlank old.now)
+module _ {Stands : Database → Tables → Type 0} {S : Type 0} (g : Ghosts S) {A B E F : Type 0} {a : A} {r : Result B F} {old mid new : State} (blank : IsBlank old.now)
     (p : MakesAtOnce (Begins old.now) {E = E} (Ok a) old mid) (before between after : State) (same : HasCleanDisk after → between.now ≡ before.now)
-    (q : FillsAll (IsWhole between after) r mid new) where
+    (so : HasCleanDisk after → (t : Tables) → StandsFor before.now t → Stands before.now t)
+    (q : FillsAll (IsWhole Stands between after) r mid new) where
   begun : HasCleanDisk new → IsBegun mid.now
   begun clean = begun_of old.now mid.now blank (p.made (q.clean clean)).2
 
@@ -78,7 +81,7 @@ module _ {S : Type 0} (g : Ghosts S) {A B E F : Type 0} {a : A} {r : Result B F}
           ]
           | inr it ↦ elim (it.1 (begun clean)) [
             | inl filling ↦ inr (it.0, inl (filling_refused g it.0 filling), it.2)
-            | inr whole ↦ inr (it.0, inr (carried_from it.0 same whole), it.2)
+            | inr whole ↦ inr (it.0, inr (carried_from it.0 same so whole), it.2)
           ]
         ];
     rows = λ clean opened. on_err_with r (λ it. elim it [
@@ -88,17 +91,17 @@ module _ {S : Type 0} (g : Ghosts S) {A B E F : Type 0} {a : A} {r : Result B F}
   }
 
   -- at Ok the file is whole
-  pub whole_now : HasCleanDisk new → OnOk r (IsTrue new.is_open × IsWhole before after new.now)
+  pub whole_now : HasCleanDisk new → OnOk r (IsTrue new.is_open × IsWhole StandsFor before after new.now)
   whole_now clean = go r (q.made clean (p.made (q.clean clean)).1)
     where
-      go : (end : Result B F) → OnOk end (IsTrue new.is_open × (IsBegun mid.now → IsWhole between after new.now))
-          → OnOk end (IsTrue new.is_open × IsWhole before after new.now)
-      go (Ok b) it = (it.0, carried_from new.now same (it.1 (begun clean)))
+      go : (end : Result B F) → OnOk end (IsTrue new.is_open × (IsBegun mid.now → IsWhole Stands between after new.now))
+          → OnOk end (IsTrue new.is_open × IsWhole StandsFor before after new.now)
+      go (Ok b) it = (it.0, carried_from new.now same so (it.1 (begun clean)))
       go (Err e) it = tt
 
   pub started : HasCleanDisk new → OnOk r (IsStart new)
   started clean = go r (whole_now clean)
     where
-      go : (end : Result B F) → OnOk end (IsTrue new.is_open × IsWhole before after new.now) → OnOk end (IsStart new)
+      go : (end : Result B F) → OnOk end (IsTrue new.is_open × IsWhole StandsFor before after new.now) → OnOk end (IsStart new)
       go (Ok b) it = starts before after new q.at_rest it.0 it.1
       go (Err e) it = tt

@@ -1,5 +1,5 @@
--- The question for the number of a schema, asked of a file of schema 2 in either style; and which verdicts there are.
-use Rattle.std.proofs.Common.{◌≡◌, ◌≢◌, ◌≤◌, inl, inr, ℕ, ℤ, pos, negsuc, Bool, true, false, ◌==◌, List, [], ◌∷◌, codes, map, filter, length, Option, Some, None, Ok, Err, Result, IfOk, IsTrue, refl, sym, ap, ap₂, subst, ◌∙◌, arith}
+-- The question for the number of a schema, asked of a file of an older one in either style; and which verdicts there are.
+use Rattle.std.proofs.Common.{◌≡◌, ◌≢◌, ◌≤◌, inl, inr, ℕ, ℤ, pos, negsuc, Bool, true, false, ◌==◌, List, [], ◌∷◌, codes, map, filter, length, Option, Some, None, Ok, Err, Result, IfOk, IsTrue, refl, sym, ap, subst, ◌∙◌, int_eq, arith, cond, find}
 use Rattle.std.specs.Prelude.{if◌then◌else◌, int_lt, unsigned_abs}
 use Rattle.std.specs.Option.{option_map_or}
 use Rattle.std.proofs.lemmas.Bool.{eqb-true, and_parts}
@@ -8,6 +8,7 @@ use Rattle.sqlite_value.specs.Order.{Row}
 use Rattle.sqlite_schema.specs.declared.schema.Schema.{Schema}
 use Rattle.sqlite_schema.specs.declared.schema.Table.{Table}
 use Rattle.sqlite_schema.specs.Names.{same_name}
+use Rattle.sqlite_keyed.proofs.KeyedLemmas.{same_int}
 use Rattle.sqlite_resolve.specs.Compile.{first}
 use Rattle.sqlite_sql.specs.Program.{overlay}
 use Rattle.sqlite_sql.specs.Query.{Query, inner, end}
@@ -23,6 +24,8 @@ use Rattle.lab_records_keeper.specs.declared.faults.BadStore.{BadStore}
 use Rattle.lab_store_tables.specs.Rows.{DeskRow, Tables, desk_id, number}
 use Rattle.lab_store_tables.proofs.RowWords.{desk_row}
 use Rattle.lab_store_tables.specs.Family.{Desk as DeskRows}
+use Rattle.lab_store_tables.specs.Family as kept
+use Rattle.lab_store_tables.specs.Sheets.{table_of}
 use Rattle.lab_store_tables.specs.Held.{AreRising}
 use Rattle.lab_store_read.proofs.Queries.{IsRead}
 use Rattle.lab_store_read.proofs.Sorted.{only_answer}
@@ -31,7 +34,9 @@ use Rattle.lab_store_files.specs.declared.faults.FileFault.TheVariants.{NotADesk
 use Rattle.lab_store_files.specs.Faults.{FailedInStore}
 use Rattle.lab_store_files.specs.Schemas.{has_column, has_number, table_named}
 use Rattle.lab_store_files.specs.Verdicts.{number_query, number_shown}
-use Rattle.lab_move_tables.specs.OldSchema.{old_schema}
+use Rattle.lab_move_tables.specs.declared.older.Older.{Older}
+use Rattle.lab_move_tables.specs.declared.older.Older.TheVariants.{Two}
+use Rattle.lab_move_tables.specs.Olders.{all_older, layout_of, number_of, schema_of}
 use Rattle.lab_move_tables.specs.OldRows.{IsOldFile, old_tables}
 use Rattle.lab_move_tables.specs.PeerFiles.{IsPeerFile, peer_schema}
 use Rattle.lab_move_tables.specs.Showing.{ShowsOf}
@@ -41,8 +46,10 @@ use Rattle.lab_move_tables.proofs.OldReaders.{passes_none}
 use Rattle.lab_move_tables.proofs.OldTexts.{MeansIn}
 use Rattle.lab_move_tables.proofs.OldExact.{answered}
 use Rattle.lab_move.specs.Faults.{read_told, IsOfStore}
-use Rattle.lab_move.specs.declared.old_tables.OldTable.TheVariants.{Desk}
-use Rattle.lab_move.specs.OldFiles.{old_number, own_table, is_like, is_whole, is_old_desk, whole_verdict, shown_verdict, old_verdict, IsNamedOldFile}
+use Rattle.lab_move_tables.specs.Standing.{StandsBy}
+use Rattle.lab_move.specs.declared.old_tables.OldTable.{OldTable}
+use Rattle.lab_move.specs.declared.old_tables.OldTable.TheVariants.{Desk, Labs, Persons, Sessions, Forms, Fields, Choices, Records, Versions, Entries, Signatures, Trail}
+use Rattle.lab_move.specs.OldFiles.{own_table, name_of, is_like, is_whole, is_old_desk, has_old_number, older_of, oldest, whole_verdict, other_verdict, named_verdict, shown_verdict, old_verdict, IsOldVerdict, OldAnswers, IsNamedOldFile, Names, StandsFor}
 
 -- ---- what the question means
 
@@ -66,9 +73,9 @@ desk_read = (_, refl)
 abbrev DeskMeans : Schema → Type 0
 DeskMeans schema = MeansIn schema number_query desk_query (codes "schema" ∷ [])
 
-desk_means : DeskMeans old_schema
+desk_means : (older : Older) → DeskMeans (schema_of older)
 unfolding understood everything
-desk_means = record { read = (_, refl); command = refl; unlisted = refl; plain = (refl, refl) }
+desk_means Two = record { read = (_, refl); command = refl; unlisted = refl; plain = (refl, refl) }
 
 peer_desk_means : DeskMeans peer_schema
 unfolding understood everything
@@ -79,75 +86,190 @@ peer_desk_means = record { read = (_, refl); command = refl; unlisted = refl; pl
 abbrev number_row : DeskRow → Row
 number_row one = number one.number ∷ []
 
-desk_short : (desk : List DeskRow) → IsTrue (is_old_desk desk) → length (filter (λ _. true) desk) ≤ 1
-desk_short [] h = absurd cc
-desk_short (one ∷ []) h = omega arith
-desk_short (one ∷ other ∷ others) h = absurd cc
+desk_short : (older : Older) (desk : List DeskRow) → IsTrue (is_old_desk older desk) → length (filter (λ _. true) desk) ≤ 1
+desk_short older [] h = absurd cc
+desk_short older (one ∷ []) h = omega arith
+desk_short older (one ∷ other ∷ others) h = absurd cc
 
 same_number : (n m : ℕ) → (n == m) ≡ true → n ≡ m
 same_number n m h = eqb-true n m h
 
-desk_shown : (desk : List DeskRow) → IsTrue (is_old_desk desk) → map number_row (filter (λ _. true) desk) ≡ (number old_number ∷ []) ∷ []
-desk_shown [] h = absurd cc
-desk_shown (one ∷ []) h = ap (λ n. (number n ∷ []) ∷ []) (same_number one.number old_number h)
-desk_shown (one ∷ other ∷ others) h = absurd cc
+desk_shown : (older : Older) (desk : List DeskRow) → IsTrue (is_old_desk older desk) → map number_row (filter (λ _. true) desk) ≡ (number (number_of older) ∷ []) ∷ []
+desk_shown older [] h = absurd cc
+desk_shown older (one ∷ []) h = ap (λ n. (number n ∷ []) ∷ []) (same_number one.number (number_of older) h)
+desk_shown older (one ∷ other ∷ others) h = absurd cc
 
-number_read : {schema : Schema} (db : Database) → db.schema ≡ schema → DeskMeans schema → db.trees 0 ≡ map desk_row (old_tables db.trees).desk → AreRising (old_tables db.trees)
-    → IsTrue (is_old_desk (old_tables db.trees).desk) → (rows : List Row) → ShowsOf db number_query [] rows → number_shown rows ≡ Some (pos old_number)
-number_read db has means stored rising named rows h =
+number_read : (older : Older) {schema : Schema} (db : Database) → db.schema ≡ schema → DeskMeans schema → db.trees 0 ≡ map desk_row (old_tables older db.trees).desk → AreRising (old_tables older db.trees)
+    → IsTrue (is_old_desk older (old_tables older db.trees).desk) → (rows : List Row) → ShowsOf db number_query [] rows → number_shown rows ≡ Some (pos (number_of older))
+number_read older db has means stored rising named rows h =
     let trees = overlay db.trees [] in
-    let desk = (old_tables db.trees).desk in
-    let given : rows ≡ (number old_number ∷ []) ∷ [] =
-    only_answer desk_query trees [] (last_table trees 0 desk_row desk_id desk stored (rising.at DeskRows) (at_end trees)) (λ _. true) (λ x. refl) refl refl (desk_short desk named) rows
+    let desk = (old_tables older db.trees).desk in
+    let given : rows ≡ (number (number_of older) ∷ []) ∷ [] =
+    only_answer desk_query trees [] (last_table trees 0 desk_row desk_id desk stored (rising.at DeskRows) (at_end trees)) (λ _. true) (λ x. refl) refl refl (desk_short older desk named) rows
     (answered means db has [] rows h)
-    ∙ desk_shown desk named in
+    ∙ desk_shown older desk named in
     ap number_shown given
 
-whole_here : is_whole old_schema ≡ true
+whole_here : (older : Older) → is_whole older (schema_of older) ≡ true
 unfolding same_name
-whole_here = refl
+whole_here Two = refl
 
-peer_whole_here : is_whole peer_schema ≡ true
+peer_whole_here : is_whole Two peer_schema ≡ true
 unfolding same_name
 peer_whole_here = refl
 
-pub exact_named : (db : Database) → IsOldFile db → IsTrue (is_old_desk (old_tables db.trees).desk) → IsNamedOldFile db
-exact_named db file named = record { whole = ap is_whole file.schema ∙ whole_here; named = number_read db file.schema desk_means (file.stored.at DeskRows) file.rising named }
+stored_desk : (older : Older) (db : Database) → IsOldFile older db → db.trees 0 ≡ map desk_row (old_tables older db.trees).desk
+stored_desk Two db file = file.stored.at DeskRows
 
-pub peer_named : (db : Database) → IsPeerFile db → IsTrue (is_old_desk (old_tables db.trees).desk) → IsNamedOldFile db
-peer_named db file named = record { whole = ap is_whole file.schema ∙ peer_whole_here; named = number_read db file.schema peer_desk_means (file.stored.at DeskRows) file.rising named }
+pub exact_named : (older : Older) (db : Database) → IsOldFile older db → IsTrue (is_old_desk older (old_tables older db.trees).desk) → IsNamedOldFile older db
+exact_named older db file named =
+    record { whole = ap (is_whole older) file.schema ∙ whole_here older; named = number_read older db file.schema (desk_means older) (stored_desk older db file) file.rising named }
 
--- ---- the verdict on a file of schema 2
+pub peer_named : (db : Database) → IsPeerFile db → IsTrue (is_old_desk Two (old_tables Two db.trees).desk) → IsNamedOldFile Two db
+peer_named db file named = record { whole = ap (is_whole Two) file.schema ∙ peer_whole_here; named = number_read Two db file.schema peer_desk_means (file.stored.at DeskRows) file.rising named }
 
-numbered : (found : Option Table) → option_map_or (is_like (own_table Desk)) found false ≡ true → option_map_or (λ desk. has_column desk (codes "schema")) found false ≡ true
-numbered None h = h
-numbered (Some table) h = let columns = (and_parts _ _ h).0 in (and_parts _ _ (and_parts _ _ columns).1).0
+-- ---- the tables by the value of the schema
 
-whole_numbered : (schema : Schema) → is_whole schema ≡ true → has_number schema ≡ true
-whole_numbered schema h = numbered (table_named schema (codes "desk")) (and_parts _ _ h).0
+abbrev kept_name : OldTable → kept.Name
+kept_name Desk = kept.Desk
+kept_name Labs = kept.Labs
+kept_name Persons = kept.Persons
+kept_name Sessions = kept.Sessions
+kept_name Forms = kept.Forms
+kept_name Fields = kept.Fields
+kept_name Choices = kept.Choices
+kept_name Records = kept.Records
+kept_name Versions = kept.Versions
+kept_name Entries = kept.Entries
+kept_name Signatures = kept.Signatures
+kept_name Trail = kept.Trail
 
-pub ours_named : (s : State) → IsNamedOldFile s.now → has_number s.now.schema ≡ true
-ours_named s named = whole_numbered s.now.schema named.whole
+-- each is as its layout describes it, and has its name
+pub known_tables : (older : Older) (one : OldTable) → (own_table older one ≡ table_of (layout_of older (kept_name one)).sheet) × ((own_table older one).name ≡ name_of one)
+known_tables Two Desk = (refl, refl)
+known_tables Two Labs = (refl, refl)
+known_tables Two Persons = (refl, refl)
+known_tables Two Sessions = (refl, refl)
+known_tables Two Forms = (refl, refl)
+known_tables Two Fields = (refl, refl)
+known_tables Two Choices = (refl, refl)
+known_tables Two Records = (refl, refl)
+known_tables Two Versions = (refl, refl)
+known_tables Two Entries = (refl, refl)
+known_tables Two Signatures = (refl, refl)
+known_tables Two Trail = (refl, refl)
 
-pub ours_taken : (old new : State) (rows : List Row) → IsNamedOldFile old.now → Shown number_query [] old new rows → old_verdict old.now.schema rows ≡ Ok tt
-ours_taken old new rows named h = ap₂ shown_verdict named.whole (named.named rows (shows_of number_query desk_read [] old new rows h))
+-- each is found by its number
+older_found : (older : Older) → older_of (pos (number_of older)) ≡ Some older
+older_found Two = refl
+
+-- ---- the verdict on a file of an older schema
+
+numbered : (older : Older) (found : Option Table) → option_map_or (is_like (own_table older Desk)) found false ≡ true → option_map_or (λ desk. has_column desk (codes "schema")) found false ≡ true
+numbered older None h = h
+numbered older (Some table) h = let columns = (and_parts _ _ h).0 in (and_parts _ _ (and_parts _ _ columns).1).0
+
+whole_numbered : (older : Older) (schema : Schema) → is_whole older schema ≡ true → has_number schema ≡ true
+whole_numbered older schema h = numbered older (table_named schema (codes "desk")) (and_parts _ _ h).0
+
+pub ours_named : (older : Older) (s : State) → IsNamedOldFile older s.now → has_number s.now.schema ≡ true
+ours_named older s named = whole_numbered older s.now.schema named.whole
+
+pub ours_taken : (older : Older) (old new : State) (rows : List Row) → IsNamedOldFile older old.now → Shown number_query [] old new rows → old_verdict old.now.schema rows ≡ Ok older
+ours_taken older old new rows named h =
+    ap (shown_verdict old.now.schema) (named.named rows (shows_of number_query desk_read [] old new rows h))
+    ∙ ap (named_verdict old.now.schema (pos (number_of older))) (older_found older)
+    ∙ ap (whole_verdict older) named.whole
+
+-- ---- which older schema a file was taken for
+
+found_passes : {X : Type 0} (p : X → Bool) (xs : List X) (found : X) → find p xs ≡ Some found → p found ≡ true
+found_passes p [] found h = absurd cc
+found_passes p (x ∷ xs) found h = go (p x) refl h (found_passes p xs found)
+  where
+    go : (b : Bool) → p x ≡ b → cond b (Some x) (find p xs) ≡ Some found → (find p xs ≡ Some found → p found ≡ true) → p found ≡ true
+    go true e is more = let same : x ≡ found = cc in subst (λ it. p it ≡ true) same e
+    go false e is more = more is
+
+number_is : (number : ℤ) (older : Older) → older_of number ≡ Some older → number ≡ pos (number_of older)
+number_is number older h = sym (same_int (pos (number_of older)) number (found_passes (has_old_number number) all_older older h))
+
+unnamed : (low old : Bool) (n : ℕ) (older : Older)
+    → ◌≢◌ {A = Result Older FileFault} (if low then Err NotADeskFile else (if old then Err (SchemaOld n) else Err (SchemaNew n))) (Ok older)
+unnamed true old n older e = cc
+unnamed false true n older e = cc
+unnamed false false n older e = cc
+
+taken_whole : (older other : Older) (whole : Bool) → whole_verdict other whole ≡ Ok older → other ≡ older
+taken_whole older other true h = cc
+taken_whole older other false h = absurd cc
+
+taken_as : (schema : Schema) (shown : Option ℤ) (older : Older) → shown_verdict schema shown ≡ Ok older → shown ≡ Some (pos (number_of older))
+taken_as schema None older h = absurd cc
+taken_as schema (Some number) older h = go (older_of number) refl h
+  where
+    go : (o : Option Older) → older_of number ≡ o → named_verdict schema number o ≡ Ok older → Some number ≡ Some (pos (number_of older))
+    go None e is = absurd (unnamed (int_lt number (pos 1)) (int_lt number (pos (number_of oldest))) (unsigned_abs number) older is)
+    go (Some other) e is = ap Some (number_is number older (e ∙ ap Some (taken_whole older other (is_whole other schema) is)))
+
+not_failed : (older : Older) → ¬ FailedInStore {A = Older} (Ok older)
+not_failed older (inl e) = cc
+not_failed older (inr e) = cc
+
+not_unnamed : (older : Older) → ◌≢◌ {A = Result Older FileFault} (Ok older) (Err NotADeskFile)
+not_unnamed older e = cc
+
+-- its one number is that of the schema
+pub names_so : (old new : State) (older : Older) → OldAnswers old new (Ok older) → Names older old.now
+names_so old new older (inl (inl it)) = absurd (not_unnamed older it.1)
+names_so old new older (inl (inr it)) = (it.0, shows_of number_query desk_read [] old new it.0 it.1, taken_as old.now.schema (number_shown it.0) older (sym it.2))
+names_so old new older (inr failed) = absurd (not_failed older failed)
+
+-- so the tables for which it stands are those of this schema
+pub stands_by : (older : Older) (db : Database) → Names older db → (t : Tables) → StandsFor db t → StandsBy older db t
+stands_by older db named t file = subst (λ it. StandsBy it db t) (sym (file.alone older named)) file.stands
+
+-- no two have one number
+alike : (one other : Older) → pos (number_of one) ≡ pos (number_of other) → one ≡ other
+alike one other same = let both : Some one ≡ Some other = sym (older_found one) ∙ ap older_of same ∙ older_found other in cc
+
+-- a file that names this schema names no other
+pub named_stands : (older : Older) (db : Database) → IsNamedOldFile older db → (t : Tables) → StandsBy older db t → StandsFor db t
+named_stands older db file t stands = record {
+  older = older;
+  alone = λ other named. alike other older (let both : Some (pos (number_of other)) ≡ Some (pos (number_of older)) = sym named.2 ∙ file.named named.0 named.1 in cc);
+  stands = stands;
+}
+
+-- while there is one older schema, no file names another
+pub known_alone : (db : Database) (t : Tables) → StandsBy Two db t → StandsFor db t
+known_alone db t stands = record { older = Two; alone = only; stands = stands }
+  where
+    only : (other : Older) → Names other db → other ≡ Two
+    only Two named = refl
 
 -- ---- which faults there are
 
-untaken : (low old new : Bool) (n : ℕ) (whole : Bool)
-    → ◌≢◌ {A = Result (Unit {0}) FileFault} (if low then Err NotADeskFile else (if old then Err (SchemaOld n) else (if new then Err (SchemaNew n) else whole_verdict whole))) (Err NotEmpty)
-untaken true old new n whole e = cc
-untaken false true new n whole e = cc
-untaken false false true n whole e = cc
-untaken false false false n true e = cc
-untaken false false false n false e = cc
+untaken : (low old : Bool) (n : ℕ)
+    → ◌≢◌ {A = Result Older FileFault} (if low then Err NotADeskFile else (if old then Err (SchemaOld n) else Err (SchemaNew n))) (Err NotEmpty)
+untaken true old n e = cc
+untaken false true n e = cc
+untaken false false n e = cc
 
-never_taken : (whole : Bool) (o : Option ℤ) → shown_verdict whole o ≢ Err NotEmpty
-never_taken whole None e = cc
-never_taken whole (Some n) e = untaken (int_lt n (pos 1)) (int_lt n (pos old_number)) (int_lt (pos old_number) n) (unsigned_abs n) whole e
+whole_untaken : (older : Older) (whole : Bool) → whole_verdict older whole ≢ Err NotEmpty
+whole_untaken older true e = cc
+whole_untaken older false e = cc
+
+named_untaken : (schema : Schema) (number : ℤ) (o : Option Older) → named_verdict schema number o ≢ Err NotEmpty
+named_untaken schema number None e = untaken (int_lt number (pos 1)) (int_lt number (pos (number_of oldest))) (unsigned_abs number) e
+named_untaken schema number (Some older) e = whole_untaken older (is_whole older schema) e
+
+never_taken : (schema : Schema) (o : Option ℤ) → shown_verdict schema o ≢ Err NotEmpty
+never_taken schema None e = cc
+never_taken schema (Some number) e = named_untaken schema number (older_of number) e
 
 pub not_taken : (schema : Schema) (rows : List Row) → old_verdict schema rows ≢ Err NotEmpty
-not_taken schema rows = never_taken (is_whole schema) (number_shown rows)
+not_taken schema rows = never_taken schema (number_shown rows)
 
 pub of_store : (fault : Fault BadStore) → IsOfStore (read_told fault)
 of_store (reading.Refused _) = inl refl
@@ -156,7 +278,7 @@ of_store reading.Memory = inr refl
 pub of_store_by : (fault : Fault BadStore) (told : FileFault) → told ≡ read_told fault → IsOfStore told
 of_store_by fault told is = subst IsOfStore (sym is) (of_store fault)
 
-pub verdict_at : (old new : State) (rows : List Row) (answer : Result (Unit {0}) FileFault) → new.now ≡ old.now → answer ≡ old_verdict new.now.schema rows
+pub verdict_at : (old new : State) (rows : List Row) (answer : Result Older FileFault) → new.now ≡ old.now → answer ≡ old_verdict new.now.schema rows
     → answer ≡ old_verdict old.now.schema rows
 verdict_at old new rows answer same is = is ∙ ap (λ (db : Database). old_verdict db.schema rows) same
 
@@ -164,9 +286,9 @@ pub failed_in : {A : Type 0} (fault : FileFault) → IsOfStore fault → FailedI
 failed_in fault (inl e) = inl (ap Err e)
 failed_in fault (inr e) = inr (ap Err e)
 
-pub not_empty_in : (fault : FileFault) → IsOfStore fault → ◌≢◌ {A = Result (Unit {0}) FileFault} (Err fault) (Err NotEmpty)
-not_empty_in fault (inl e) is = let wrong : ◌≡◌ {A = Result (Unit {0}) FileFault} (Err Storage) (Err NotEmpty) = ap Err (sym e) ∙ is in cc
-not_empty_in fault (inr e) is = let wrong : ◌≡◌ {A = Result (Unit {0}) FileFault} (Err Memory) (Err NotEmpty) = ap Err (sym e) ∙ is in cc
+pub not_empty_in : (fault : FileFault) → IsOfStore fault → ◌≢◌ {A = Result Older FileFault} (Err fault) (Err NotEmpty)
+not_empty_in fault (inl e) is = let wrong : ◌≡◌ {A = Result Older FileFault} (Err Storage) (Err NotEmpty) = ap Err (sym e) ∙ is in cc
+not_empty_in fault (inr e) is = let wrong : ◌≡◌ {A = Result Older FileFault} (Err Memory) (Err NotEmpty) = ap Err (sym e) ∙ is in cc
 
 pub any_ok : {A E : Type 0} (r : Result A E) → IfOk r (λ _. Unit {0})
 any_ok (Ok a) = tt

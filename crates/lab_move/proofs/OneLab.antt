@@ -6,8 +6,7 @@ use Rattle.lab_records_kept.specs.declared.labs.Lab.{Lab}
 use Rattle.lab_records_kept.specs.Bound.{IsBound}
 use Rattle.lab_records_kept.specs.Dual.{IsDual}
 use Rattle.lab_store_tables.specs.Rows.{Tables}
-use Rattle.lab_move_tables.specs.Reading.{ReadsOld}
-use Rattle.lab_move_tables.specs.Standing.{StandsFor}
+use Rattle.lab_move_tables.specs.Reading.{ReadsAs}
 use Rattle.lab_move_tables.proofs.OldReaders.{may_and}
 use Rattle.lab_move_files.specs.Commits.{MakesAtOnce}
 use Rattle.lab_move_files.proofs.Commits.{makes_weaker}
@@ -37,11 +36,11 @@ FoundSound found = (lab : Lab) × (found ≡ Some lab) × IsSoundLab lab
 abbrev pub PlacesFound : Option Lab → Database → Database → Type 0
 PlacesFound found was db = (lab : Lab) × (found ≡ Some lab) × IsSoundLab lab × Carries lab was db
 
-module _ {E : Type 0} (code : List ℕ) (found : Option Lab) {before after : State} (read : ReadsOld {E = E} (λ t it. IsLabOf t code it) before after (Ok found)) where
-  here : (t : Tables) → ReadsOldAs before after t → IsLabOf t code found
+module _ {Stands : Database → Tables → Type 0} {E : Type 0} (code : List ℕ) (found : Option Lab) {before after : State} (read : ReadsAs Stands {E = E} (λ t it. IsLabOf t code it) before after (Ok found)) where
+  here : (t : Tables) → ReadsOldAs Stands before after t → IsLabOf t code found
   here t so = read.answer t so.0 so.1
 
-  pub lab_reads : {A F : Type 0} (r : Result A F) → OnOk r (FoundSound found) → ReadsOld (λ t _. IsSoundIn t code) before after r
+  pub lab_reads : {A F : Type 0} (r : Result A F) → OnOk r (FoundSound found) → ReadsAs Stands (λ t _. IsSoundIn t code) before after r
   lab_reads r sound = may_and read (λ t file is. go t r sound is)
     where
       go : (t : Tables) {A F : Type 0} (end : Result A F) → OnOk end (FoundSound found) → IsLabOf t code found → IfOk end (λ _. IsSoundIn t code)
@@ -49,20 +48,20 @@ module _ {E : Type 0} (code : List ℕ) (found : Option Lab) {before after : Sta
       go t (Err e) it is = tt
 
   pub lab_carries : {A F : Type 0} (r : Result A F) {was now : State} → MakesAtOnce (PlacesFound found was.now) r was now
-      → MakesAtOnce (CarriesFrom before after code was.now) r was now
+      → MakesAtOnce (CarriesFrom Stands before after code was.now) r was now
   lab_carries r {was} {now} it =
-      makes_weaker (PlacesFound found was.now) (CarriesFrom before after code was.now) r
+      makes_weaker (PlacesFound found was.now) (CarriesFrom Stands before after code was.now) r
       (λ db one. (one.0, one.2, one.3, λ t so. subst (IsLabOf t code) one.1 (here t so))) it
 
   pub lab_blamed : (one : List ℕ) → (one ≡ code) × (lab : Lab) × (found ≡ Some lab) × ¬ (IsBound lab × IsDual lab)
-      → (one ≡ code) × ((t : Tables) → ReadsOldAs before after t → IsUnsoundIn t code)
+      → (one ≡ code) × ((t : Tables) → ReadsOldAs Stands before after t → IsUnsoundIn t code)
   lab_blamed one it = (it.0, λ t so. inr (it.1, subst (IsLabOf t code) it.2 (here t so), it.3))
 
 -- where none was read
-pub unread_blamed : (code : List ℕ) (fault : WholeFault) (before after : State)
-    → ((t : Tables) → StandsFor before.now t → HasCleanDisk after → fault ≡ NotKept → IsUnkept t code)
-    → (one : List ℕ) → (one ≡ code) × (fault ≡ NotKept) → (one ≡ code) × ((t : Tables) → ReadsOldAs before after t → IsUnsoundIn t code)
-unread_blamed code fault before after unkept one it = (it.0, λ t so. inl (unkept t so.0 so.1 it.1))
+pub unread_blamed : (Stands : Database → Tables → Type 0) (code : List ℕ) (fault : WholeFault) (before after : State)
+    → ((t : Tables) → Stands before.now t → HasCleanDisk after → fault ≡ NotKept → IsUnkept t code)
+    → (one : List ℕ) → (one ≡ code) × (fault ≡ NotKept) → (one ≡ code) × ((t : Tables) → ReadsOldAs Stands before after t → IsUnsoundIn t code)
+unread_blamed Stands code fault before after unkept one it = (it.0, λ t so. inl (unkept t so.0 so.1 it.1))
 
 pub on_ok_so : {A E P : Type 0} (r : Result A E) → P → OnOk r P
 on_ok_so (Ok a) p = p

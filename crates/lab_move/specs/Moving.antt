@@ -26,14 +26,13 @@ use Rattle.lab_store_files.specs.declared.faults.FileFault.TheVariants.{NotADesk
 use Rattle.lab_store_files.specs.Faults.{FailedInStore}
 use Rattle.lab_store_files.specs.Schemas.{is_taken}
 use Rattle.lab_store_files.specs.Verdicts.{AnswersVerdict}
-use Rattle.lab_move_tables.specs.Standing.{StandsFor}
 use Rattle.lab_move_files.specs.Unfinished.{IsBeingFilled}
 use Rattle.lab_move_write.specs.Carrying.{Carries}
 use Rattle.lab_move_read.specs.Laboratories.{codes_of, IsLabOf, IsUnkept}
 use Rattle.lab_move.specs.declared.faults.MoveFault.{MoveFault}
 use Rattle.lab_move.specs.declared.faults.MoveFault.TheVariants.{File, NotSound}
 use Rattle.lab_move.specs.Faults.{IsOfStore}
-use Rattle.lab_move.specs.OldFiles.{IsNoneOfOld}
+use Rattle.lab_move.specs.OldFiles.{IsNoneOfOld, StandsFor}
 
 -- ---- laboratories
 
@@ -72,9 +71,9 @@ abbrev pub AreAll : (Lab → Type 0) → Meaning → Type 0
 AreAll Holds held = (code : List ℕ) → WhereThere Holds (held code)
 
 -- what was read of the old file, from one moment to a later one, says what these tables mean, for
--- which the file stands
-abbrev pub ReadsOldAs : State → State → Tables → Type 0
-ReadsOldAs before after t = StandsFor before.now t × HasCleanDisk after
+-- which the file stands in this way
+abbrev pub ReadsOldAs : (Database → Tables → Type 0) → State → State → Tables → Type 0
+ReadsOldAs Stands before after t = Stands before.now t × HasCleanDisk after
 
 -- no laboratory is in it yet
 pub record IsBegun (db : Database) : Type 0 where
@@ -82,30 +81,33 @@ pub record IsBegun (db : Database) : Type 0 where
   pub empty : (code : List ℕ) → meaning (tables_in db.trees) code ≡ None
 
 -- a file of this kind has laboratories of the old one, as that one means them, and no others
-pub record HasCarried (IsFile : Database → Type 0) (before after : State)
-    (among : Meaning → Meaning) (db : Database) : Type 0 where
+pub record HasCarried (Stands : Database → Tables → Type 0) (IsFile : Database → Type 0)
+    (before after : State) (among : Meaning → Meaning) (db : Database) : Type 0 where
   pub file : IsFile db
   pub sound : AreAll IsSoundLab (meaning (tables_in db.trees))
-  pub same : (t : Tables) → ReadsOldAs before after t → SameMeaning (among (meaning t))
+  pub same : (t : Tables) → ReadsOldAs Stands before after t → SameMeaning (among (meaning t))
       (meaning (tables_in db.trees))
 
 -- it is being filled, and has those of these codes
-abbrev pub HasThese : State → State → List (List ℕ) → Database → Type 0
-HasThese before after done = HasCarried IsBeingFilled before after (meaning_among done)
+abbrev pub HasThese : (Database → Tables → Type 0) → State → State → List (List ℕ) → Database
+    → Type 0
+HasThese Stands before after done = HasCarried Stands IsBeingFilled before after (meaning_among done)
 
 -- it is finished, and has those of these codes
-abbrev pub IsWholeOf : State → State → List (List ℕ) → Database → Type 0
-IsWholeOf before after codes = HasCarried IsKept before after (meaning_among codes)
+abbrev pub IsWholeOf : (Database → Tables → Type 0) → State → State → List (List ℕ) → Database
+    → Type 0
+IsWholeOf Stands before after codes = HasCarried Stands IsKept before after (meaning_among codes)
 
 -- it is finished, and has every laboratory of the old file
-abbrev pub IsWhole : State → State → Database → Type 0
-IsWhole before after = HasCarried IsKept before after (λ held. held)
+abbrev pub IsWhole : (Database → Tables → Type 0) → State → State → Database → Type 0
+IsWhole Stands before after = HasCarried Stands IsKept before after (λ held. held)
 
 -- a laboratory was read of the old file and placed
-abbrev pub CarriesFrom : State → State → List ℕ → Database → Database → Type 0
-CarriesFrom before after code was db =
+abbrev pub CarriesFrom : (Database → Tables → Type 0) → State → State → List ℕ → Database → Database
+    → Type 0
+CarriesFrom Stands before after code was db =
     (lab : Lab) × IsSoundLab lab × Carries lab was db
-    × ((t : Tables) → ReadsOldAs before after t → IsLabOf t code (Some lab))
+    × ((t : Tables) → ReadsOldAs Stands before after t → IsLabOf t code (Some lab))
 
 -- ---- a call that commits more than once, however it ends
 
@@ -170,14 +172,15 @@ Blames Holds (File fault) = IsOfStore fault
 Blames Holds (NotSound lab) = Holds lab
 
 -- the laboratory is the first of these that isn't sound
-abbrev pub BlamesFirst : State → State → List (List ℕ) → MoveFault → Type 0
-BlamesFirst before after codes =
-    Blames (λ lab. (t : Tables) → ReadsOldAs before after t → IsFirstUnsound t codes lab)
+abbrev pub BlamesFirst : (Database → Tables → Type 0) → State → State → List (List ℕ) → MoveFault
+    → Type 0
+BlamesFirst Stands before after codes =
+    Blames (λ lab. (t : Tables) → ReadsOldAs Stands before after t → IsFirstUnsound t codes lab)
 
 -- or of all that the old file has
-abbrev pub BlamesFirstOfAll : State → State → MoveFault → Type 0
-BlamesFirstOfAll before after =
-    Blames (λ lab. (t : Tables) → ReadsOldAs before after t → IsFirstUnsound t (codes_of t) lab)
+abbrev pub BlamesFirstOfAll : (Database → Tables → Type 0) → State → State → MoveFault → Type 0
+BlamesFirstOfAll Stands before after =
+    Blames (λ lab. (t : Tables) → ReadsOldAs Stands before after t → IsFirstUnsound t (codes_of t) lab)
 
 -- by the old file before and after the call, and the new one before it
 abbrev pub HasCause : State → State → State → MoveFault → Type 0
@@ -191,7 +194,7 @@ HasCause before after fresh (File Storage) = Unit {0}
 HasCause before after fresh (File NotEmpty) = IsTrue (is_taken fresh.now.schema)
 HasCause before after fresh (File Memory) = Unit {0}
 HasCause before after fresh (NotSound lab) =
-    (t : Tables) → ReadsOldAs before after t → IsFirstUnsound t (codes_of t) lab
+    (t : Tables) → ReadsOldAs StandsFor before after t → IsFirstUnsound t (codes_of t) lab
 
 -- ---- what it leaves of a new file that was empty
 
@@ -208,6 +211,7 @@ pub record LeavesUnfinished {S : Type 0} (g : Ghosts S) (before after : State) {
   -- the whole one
   pub crash : HasCleanDisk new → IsTrue old.is_open → (trees : Trees) → new.may_leave trees
       → old.may_leave trees
-      ⊎ ((db : Database) × (IsNoInstallation g db ⊎ IsWhole before after db) × (trees ≡ db.trees))
+      ⊎ ((db : Database) × (IsNoInstallation g db ⊎ IsWhole StandsFor before after db)
+      × (trees ≡ db.trees))
   -- where the call failed, the file is refused, as it would have been before
   pub rows : WhereShown new (OnErr result (IsNoInstallation g new.now))

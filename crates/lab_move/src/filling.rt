@@ -9,7 +9,8 @@ ghost use Rattle.lab_records_kept.specs.Dual.{IsDual};
 ghost use Rattle.sqlite.specs.State.{HasCleanDisk};
 ghost use Rattle.lab_store_tables.specs.Ready.{IsAtRest, IsMadeBy, tables_of};
 ghost use Rattle.lab_store_tables.specs.Rows.{Tables};
-ghost use Rattle.lab_move_tables.specs.Reading.{ReadsOld};
+ghost use Rattle.lab_move_tables.specs.Reading.{ReadsBy, ReadsOld};
+ghost use Rattle.lab_move_tables.specs.Standing.{StandsBy};
 ghost use Rattle.lab_move_files.specs.Commits.{MakesAtOnce};
 ghost use Rattle.lab_move_files.specs.Unfinished.{Finishes, IsBeingFilled};
 ghost use Rattle.lab_move_laws.specs.Namings.{NamesSchema};
@@ -25,6 +26,7 @@ use crate::testing::{not_sound, test_lab};
 use lab_forms_texts::LabCode;
 use lab_move_files::finish;
 use lab_move_read::{WholeFault, codes, whole};
+use lab_move_tables::Older;
 use lab_move_write::{MoveProgress, place_lab};
 use lab_records_kept::Lab;
 use lab_store_files::FileFault;
@@ -109,20 +111,21 @@ fn unread(code: &LabCode, fault: WholeFault) -> MoveFault
 fn move_lab<D: Readable, T: Alter, P: MoveProgress>(
     alloc: Global,
     old: &mut D,
+    older: Older,
     new: &mut Connection<T>,
     code: &LabCode,
     progress: &mut P,
 ) -> Result<(), MoveFault>
     requires at_rest { IsAtRest (state T.Store new.old) }
-    ensures reads { ReadsOld (λ t _. IsSoundIn t code.now)
+    ensures reads { ReadsBy older (λ t _. IsSoundIn t code.now)
         (D.state old.old) (D.state old.new) result }
-    ensures carries { MakesAtOnce (CarriesFrom (D.state old.old) (D.state old.new) code.now
-        (state T.Store new.old).now) result (state T.Store new.old) (state T.Store new.new) }
+    ensures carries { MakesAtOnce (CarriesFrom (StandsBy older) (D.state old.old)
+        (D.state old.new) code.now (state T.Store new.old).now) result (state T.Store new.old) (state T.Store new.new) }
     ensures fault { IfErr result (Blames (λ one. (one ≡ code.now)
-        × ((t : Tables) → ReadsOldAs (D.state old.old) (D.state old.new) t →
+        × ((t : Tables) → ReadsOldAs (StandsBy older) (D.state old.old) (D.state old.new) t →
         IsUnsoundIn t code.now))) }
 {
-    match whole(alloc, old, code) {
+    match whole(alloc, old, older, code) {
         Ok(found) => place_found(alloc, new, code, found, progress),
         Err(fault) => Err(unread(code, fault)),
     }
@@ -132,21 +135,23 @@ fn move_lab<D: Readable, T: Alter, P: MoveProgress>(
 fn move_each<D: Readable, T: Alter, P: MoveProgress>(
     alloc: Global,
     old: &mut D,
+    older: Older,
     new: &mut Connection<T>,
     codes: &[LabCode],
     progress: &mut P,
 ) -> Result<(), MoveFault>
     requires at_rest { IsAtRest (state T.Store new.old) }
-    ensures reads { ReadsOld (λ t _. All (IsSoundIn t) codes.now)
+    ensures reads { ReadsBy older (λ t _. All (IsSoundIn t) codes.now)
         (D.state old.old) (D.state old.new) result }
-    ensures fills { Fills (HasThese (D.state old.old) (D.state old.new) codes.now) result
-        (state T.Store new.old) (state T.Store new.new) }
-    ensures fault { IfErr result (BlamesFirst (D.state old.old) (D.state old.new) codes.now) }
+    ensures fills { Fills (HasThese (StandsBy older) (D.state old.old) (D.state old.new)
+        codes.now) result (state T.Store new.old) (state T.Store new.new) }
+    ensures fault { IfErr result (BlamesFirst (StandsBy older) (D.state old.old)
+        (D.state old.new) codes.now) }
 {
     for place in 0..codes.len() {
         let code = &codes[place];
         progress.tell_lab(code, place, codes.len());
-        move_lab(alloc, old, new, code, progress)?;
+        move_lab(alloc, old, older, new, code, progress)?;
     }
     Ok(())
 }
@@ -193,20 +198,22 @@ fn finish_compared<D: Readable, T: Alter>(
 fn move_all<D: Readable, T: Alter, P: MoveProgress>(
     alloc: Global,
     old: &mut D,
+    older: Older,
     new: &mut Connection<T>,
     codes: &[LabCode],
     progress: &mut P,
 ) -> Result<u64, MoveFault>
     requires at_rest { IsAtRest (state T.Store new.old) }
-    ensures reads { ReadsOld (AreCounted codes.now) (D.state old.old) (D.state old.new) result }
-    ensures fills { FillsAll (IsWholeOf (D.state old.old) (D.state old.new) codes.now) result
-        (state T.Store new.old) (state T.Store new.new) }
+    ensures reads { ReadsBy older (AreCounted codes.now) (D.state old.old) (D.state old.new) result }
+    ensures fills { FillsAll (IsWholeOf (StandsBy older) (D.state old.old) (D.state old.new)
+        codes.now) result (state T.Store new.old) (state T.Store new.new) }
     ensures counted { HasCleanDisk (D.state old.new) → HasCleanDisk (state T.Store new.new) →
         IsTrue (state T.Store new.old).is_open → IsBegun (state T.Store new.old).now →
         OnOk result (HasAsMany (D.state old.old).now (tables_of (state T.Store new.new))) }
-    ensures fault { IfErr result (BlamesFirst (D.state old.old) (D.state old.new) codes.now) }
+    ensures fault { IfErr result (BlamesFirst (StandsBy older) (D.state old.old)
+        (D.state old.new) codes.now) }
 {
-    match move_each(alloc, old, new, codes, progress) {
+    match move_each(alloc, old, older, new, codes, progress) {
         Ok(()) => finish_compared(old, new, codes),
         Err(fault) => Err(fault),
     }
@@ -221,21 +228,23 @@ fn move_all<D: Readable, T: Alter, P: MoveProgress>(
 pub(crate) fn fill<D: Readable, T: Alter, P: MoveProgress>(
     alloc: Global,
     old: &mut D,
+    older: Older,
     new: &mut Connection<T>,
     progress: &mut P,
 ) -> Result<u64, MoveFault>
     requires at_rest { IsAtRest (state T.Store new.old) }
-    ensures reads { ReadsOld (λ t. AreCounted (codes_of t) t)
+    ensures reads { ReadsBy older (λ t. AreCounted (codes_of t) t)
         (D.state old.old) (D.state old.new) result }
-    ensures fills { FillsAll (IsWhole (D.state old.old) (D.state old.new)) result
-        (state T.Store new.old) (state T.Store new.new) }
+    ensures fills { FillsAll (IsWhole (StandsBy older) (D.state old.old) (D.state old.new))
+        result (state T.Store new.old) (state T.Store new.new) }
     ensures counted { HasCleanDisk (D.state old.new) → HasCleanDisk (state T.Store new.new) →
         IsTrue (state T.Store new.old).is_open → IsBegun (state T.Store new.old).now →
         OnOk result (HasAsMany (D.state old.old).now (tables_of (state T.Store new.new))) }
-    ensures fault { IfErr result (BlamesFirstOfAll (D.state old.old) (D.state old.new)) }
+    ensures fault { IfErr result (BlamesFirstOfAll (StandsBy older) (D.state old.old)
+        (D.state old.new)) }
 {
     match codes(alloc, old) {
-        Ok(codes) => move_all(alloc, old, new, codes.as_slice(), progress),
+        Ok(codes) => move_all(alloc, old, older, new, codes.as_slice(), progress),
         Err(fault) => Err(MoveFault::File(store_fault(fault))),
     }
 }

@@ -1,4 +1,4 @@
-//! A file of schema 2, carried into a new one of today's schema: all of its laboratories, or a new
+//! A file of an older schema, carried into a new one of today's schema: all of its laboratories, or a new
 //! file that is never taken for a whole one (21 CFR 11.10(c), "protection of records to enable
 //! their accurate and ready retrieval throughout the records retention period"; ISO/IEC 17025:2017,
 //! 8.4.2).
@@ -19,8 +19,11 @@ pub use faults::MoveFault;
 pub use lab_forms_texts::{LabCode, OutOfMemory};
 pub use lab_move_checks::{is_sound, is_within};
 pub use lab_move_files::{Inside, finish, make_tables};
+pub use lab_move_tables::Older;
 pub use lab_move_write::{MoveProgress, Unwatched, place_lab};
 pub use lab_records_kept::Lab;
 pub use lab_store_files::FileFault;
-pub use moving::{an_exact_file_is_named, an_unfinished_file_is_refused, migrate};
+pub use moving::{
+    a_named_file_stands, an_exact_file_is_named, an_unfinished_file_is_refused, migrate,
+};
 pub use opening::{OldFile, open_old};

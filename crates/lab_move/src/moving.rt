@@ -1,29 +1,33 @@
-//! A file of schema 2, moved.
+//! A file of an older schema, moved.
 
-ghost use Rattle.std.specs.Prelude.{◌≡◌, Err, IfErr, IfOk, OnOk, IsTrue, Result};
+ghost use Rattle.std.specs.Prelude.{◌≡◌, ◌⊎◌, Err, IfErr, IfOk, OnOk, IsTrue, Result};
 ghost use Rattle.sqlite.specs.Effect.{Database};
 ghost use Rattle.sqlite.specs.Held.{state};
 ghost use Rattle.sqlite.specs.State.{HasCleanDisk};
 ghost use Rattle.lab_store_tables.specs.Ready.{IsAtRest, tables_of};
+ghost use Rattle.lab_store_files.specs.declared.faults.FileFault.TheVariants.{Memory, NotEmpty, Storage};
 ghost use Rattle.lab_store_files.specs.NewFiles.{IsBlank};
 ghost use Rattle.lab_store_files.specs.Schemas.{is_taken};
 ghost use Rattle.lab_store_tables.specs.Rows.{Tables};
 ghost use Rattle.lab_move_tables.specs.OldRows.{IsOldFile, old_tables};
 ghost use Rattle.lab_move_tables.specs.PeerFiles.{IsPeerFile};
 ghost use Rattle.lab_move_tables.specs.Reading.{ReadsOld};
-ghost use Rattle.lab_move_tables.specs.Standing.{StandsFor};
+ghost use Rattle.lab_move_tables.specs.Standing.{StandsBy};
+ghost use Rattle.lab_move_tables.specs.declared.older.Older.{Older as AnyOlder};
+ghost use Rattle.lab_move_tables.specs.declared.older.Older.TheVariants.{Two};
 ghost use Rattle.lab_move_files.specs.Commits.{MakesAtOnce};
 ghost use Rattle.lab_move_files.specs.Unfinished.{Begins, IsBeingFilled};
 ghost use Rattle.lab_move.specs.declared.faults.MoveFault.TheVariants.{File};
 ghost use Rattle.lab_move.specs.Counting.{HasAsMany};
 ghost use Rattle.lab_move.specs.Faults.{is_early};
 ghost use Rattle.lab_move.specs.Moving.{HasCause, IsMoved, IsNoInstallation, IsStart, LeavesUnfinished};
-ghost use Rattle.lab_move.specs.OldFiles.{IsNamedOldFile, is_old_desk};
+ghost use Rattle.lab_move.specs.OldFiles.{IsNamedOldFile, Names, StandsFor, is_old_desk};
 
 use crate::faults::MoveFault;
 use crate::filling::fill;
 use crate::opening::{OldFile, open_old};
 use lab_move_files::make_tables;
+use lab_move_tables::Older;
 use lab_move_write::MoveProgress;
 use lab_store_files::FileFault;
 use sqlite::{Alter, Connection};
@@ -36,20 +40,50 @@ pub fn an_unfinished_file_is_refused<S: Alter>()
     ensures blank { (db : Database) → IsBlank db → IsNoInstallation S.Store db }
 {}
 
-/// Law: a file whose tables are, text for text, those of schema 2, in our style or in that of
+/// Law: a file whose tables are, text for text, those of an older schema, in our style or in that of
 /// another program, and whose one row of `desk` names the schema, is never refused as another one.
 pub fn an_exact_file_is_named()
-    ensures exact { (db : Database) → IsOldFile db →
-        IsTrue (is_old_desk (old_tables db.trees).desk) → IsNamedOldFile db }
+    ensures exact { (older : AnyOlder) (db : Database) → IsOldFile older db →
+        IsTrue (is_old_desk older (old_tables older db.trees).desk) → IsNamedOldFile older db }
     ensures peer { (db : Database) → IsPeerFile db →
-        IsTrue (is_old_desk (old_tables db.trees).desk) → IsNamedOldFile db }
+        IsTrue (is_old_desk Two (old_tables Two db.trees).desk) → IsNamedOldFile Two db }
 {}
 
+/// Law: a file that names an older schema, and stands for tables as one of it, stands for them.
+pub fn a_named_file_stands()
+    ensures { (older : AnyOlder) (db : Database) → IsNamedOldFile older db → (t : Tables) →
+        StandsBy older db t → StandsFor db t }
+{}
+
+// Makes the tables of the new file, for an old one of the schema.
+fn make_for<T: Alter>(older: Older, new: &mut Connection<T>) -> Result<Older, FileFault>
+    requires at_rest { IsAtRest (state T.Store new.old) }
+    ensures is { IfOk result (λ one. one ≡ older) }
+    ensures begun { MakesAtOnce (Begins (state T.Store new.old).now) result
+        (state T.Store new.old) (state T.Store new.new) }
+    ensures taken { IsTrue (is_taken (state T.Store new.old).now.schema) →
+        result ≡ Err NotEmpty }
+    ensures not_empty { result ≡ Err NotEmpty →
+        IsTrue (is_taken (state T.Store new.old).now.schema) × (new.new ≡ new.old) }
+    ensures fault { IfErr result
+        (λ fault. (fault ≡ NotEmpty) ⊎ ((fault ≡ Storage) ⊎ (fault ≡ Memory))) }
+{
+    match make_tables(new) {
+        Ok(()) => Ok(older),
+        Err(fault) => Err(fault),
+    }
+}
+
 // Looks at the old file, and makes the tables of the new one.
-fn begin<S: Alter, T: Alter>(old: &mut OldFile<S>, new: &mut Connection<T>) -> Result<(), FileFault>
+fn begin<S: Alter, T: Alter>(
+    old: &mut OldFile<S>,
+    new: &mut Connection<T>,
+) -> Result<Older, FileFault>
     requires at_rest { IsAtRest (state T.Store new.old) }
     ensures reads { ReadsOld (λ _ _. Unit {0})
         (state S.Store old.old.conn) (state S.Store old.new.conn) result }
+    ensures older { HasCleanDisk (state S.Store old.new.conn) →
+        IfOk result (λ older. Names older (state S.Store old.old.conn).now) }
     ensures begun { MakesAtOnce (Begins (state T.Store new.old).now) result
         (state T.Store new.old) (state T.Store new.new) }
     ensures cause { IfErr result (λ fault. HasCause (state S.Store old.old.conn)
@@ -59,19 +93,19 @@ fn begin<S: Alter, T: Alter>(old: &mut OldFile<S>, new: &mut Connection<T>) -> R
         OnOk result ⊥ × (new.new ≡ new.old) }
 {
     match open_old(old) {
-        Ok(()) => make_tables(new),
+        Ok(older) => make_for(older, new),
         Err(fault) => Err(fault),
     }
 }
 
-/// Moves an old file, which is one of schema 2, into a new one, which is empty: the tables are made
+/// Moves an old file, which is one of an older schema, into a new one, which is empty: the tables are made
 /// first, by one commit, each laboratory is placed by one more, in the order of the codes' bytes,
 /// and the row that names the schema comes last, so that the new file is taken for none in which
 /// laboratories are kept until it is whole. Answers how many laboratories there are. Nothing is
 /// written to the old file.
 ///
 /// # Errors
-/// The old file is none of schema 2, or has an older or a newer schema; the new one has a table of
+/// The old file is none of an older schema, or of one before or after these; the new one has a table of
 /// a name that is wanted; the rows of a laboratory aren't well kept, or it isn't bound or not under
 /// dual control; the store refused, a row is none that is written, or belongs to no laboratory; or
 /// memory ran out.
@@ -110,14 +144,14 @@ pub fn migrate<S: Alter, T: Alter, P: MoveProgress>(
     ensures unfinished { IsBlank (state T.Store new.old).now → LeavesUnfinished T.Store
         (state S.Store old.old.conn) (state S.Store old.new.conn) result
         (state T.Store new.old) (state T.Store new.new) }
-    // The new file is untouched where the old one is none of schema 2, and where it has such a
+    // The new file is untouched where the old one is none of an older schema, and where it has such a
     // table itself:
     ensures untouched { IfErr result (λ fault. IsTrue (is_early fault) → new.new ≡ new.old) }
     ensures taken { IsTrue (is_taken (state T.Store new.old).now.schema) →
         OnOk result ⊥ × (new.new ≡ new.old) }
 {
     match begin(old, new) {
-        Ok(()) => fill(alloc, old, new, progress),
+        Ok(older) => fill(alloc, old, older, new, progress),
         Err(fault) => Err(MoveFault::File(fault)),
     }
 }

@@ -1,16 +1,18 @@
-//! The twelve tables of schema 2 by name, and which columns and references each has.
+//! The twelve tables of an older schema by name, and which columns and references each has.
 
 ghost use Rattle.std.specs.Prelude.{◌≡◌};
 ghost use Rattle.std.specs.List.{list_all};
 ghost use Rattle.lab_store_files.specs.Schemas.{has_columns};
 ghost use Rattle.lab_move.specs.Arrows.{has_arrow, has_arrows};
-ghost use Rattle.lab_move.specs.OldFiles.{is_like, own_table};
+ghost use Rattle.lab_move.specs.OldFiles.{is_like, name_of, own_table};
+ghost use Rattle.lab_move.specs.declared.old_tables.OldTable.TheVariants.{Persons, Forms, Versions};
 
 use crate::arrows::{has_arrow, has_id};
 use crate::schemas::has_all;
+use lab_move_tables::Older;
 use sqlite_schema::schema::Table;
 
-/// A table of a file of schema 2.
+/// A table of a file of an older schema.
 #[derive(Clone, Copy, Debug, PartialEq, Eq)]
 pub(crate) enum OldTable {
     Desk,
@@ -123,6 +125,56 @@ fn has_each(table: &Table, arrows: &[(&str, &str)]) -> bool
         .all(|arrow| has_arrow(table, arrow.0, arrow.1))
 }
 
+// The tables that have changed since, by the schema.
+
+fn has_person_columns(older: Older, table: &Table) -> bool
+    ensures { result ≡ has_columns (own_table older Persons) table.now }
+{
+    match older {
+        Older::Two => has_all(table, PERSONS.as_slice()),
+    }
+}
+
+fn has_person_arrows(older: Older, table: &Table) -> bool
+    ensures { result ≡ has_arrows (own_table older Persons) table.now }
+{
+    match older {
+        Older::Two => has_each(table, OF_PERSONS.as_slice()),
+    }
+}
+
+fn has_form_columns(older: Older, table: &Table) -> bool
+    ensures { result ≡ has_columns (own_table older Forms) table.now }
+{
+    match older {
+        Older::Two => has_all(table, FORMS.as_slice()),
+    }
+}
+
+fn has_form_arrows(older: Older, table: &Table) -> bool
+    ensures { result ≡ has_arrows (own_table older Forms) table.now }
+{
+    match older {
+        Older::Two => has_each(table, OF_FORMS.as_slice()),
+    }
+}
+
+fn has_version_columns(older: Older, table: &Table) -> bool
+    ensures { result ≡ has_columns (own_table older Versions) table.now }
+{
+    match older {
+        Older::Two => has_all(table, VERSIONS.as_slice()),
+    }
+}
+
+fn has_version_arrows(older: Older, table: &Table) -> bool
+    ensures { result ≡ has_arrows (own_table older Versions) table.now }
+{
+    match older {
+        Older::Two => has_each(table, OF_VERSIONS.as_slice()),
+    }
+}
+
 impl OldTable {
     /// The tables, in the order in which they are made.
     pub(crate) const ALL: [OldTable; 12] = [
@@ -142,7 +194,7 @@ impl OldTable {
 
     /// The table's name.
     pub(crate) fn name(self) -> &'static str
-        ensures { result.now ≡ (own_table self).name }
+        ensures { result.now ≡ name_of self }
     {
         match self {
             OldTable::Desk => "desk",
@@ -161,19 +213,19 @@ impl OldTable {
     }
 
     // Whether a table of a file has each of the columns.
-    fn has_columns_in(self, table: &Table) -> bool
-        ensures { result ≡ has_columns (own_table self) table.now }
+    fn has_columns_in(self, older: Older, table: &Table) -> bool
+        ensures { result ≡ has_columns (own_table older self) table.now }
     {
         match self {
             OldTable::Desk => has_all(table, DESK.as_slice()),
             OldTable::Labs => has_all(table, LABS.as_slice()),
-            OldTable::Persons => has_all(table, PERSONS.as_slice()),
+            OldTable::Persons => has_person_columns(older, table),
             OldTable::Sessions => has_all(table, SESSIONS.as_slice()),
-            OldTable::Forms => has_all(table, FORMS.as_slice()),
+            OldTable::Forms => has_form_columns(older, table),
             OldTable::Fields => has_all(table, FIELDS.as_slice()),
             OldTable::Choices => has_all(table, CHOICES.as_slice()),
             OldTable::Records => has_all(table, RECORDS.as_slice()),
-            OldTable::Versions => has_all(table, VERSIONS.as_slice()),
+            OldTable::Versions => has_version_columns(older, table),
             OldTable::Entries => has_all(table, ENTRIES.as_slice()),
             OldTable::Signatures => has_all(table, SIGNATURES.as_slice()),
             OldTable::Trail => has_all(table, TRAIL.as_slice()),
@@ -181,19 +233,19 @@ impl OldTable {
     }
 
     // Whether it has each of the references.
-    fn has_arrows_in(self, table: &Table) -> bool
-        ensures { result ≡ has_arrows (own_table self) table.now }
+    fn has_arrows_in(self, older: Older, table: &Table) -> bool
+        ensures { result ≡ has_arrows (own_table older self) table.now }
     {
         match self {
             OldTable::Desk => true,
             OldTable::Labs => true,
-            OldTable::Persons => has_each(table, OF_PERSONS.as_slice()),
+            OldTable::Persons => has_person_arrows(older, table),
             OldTable::Sessions => has_each(table, OF_SESSIONS.as_slice()),
-            OldTable::Forms => has_each(table, OF_FORMS.as_slice()),
+            OldTable::Forms => has_form_arrows(older, table),
             OldTable::Fields => has_each(table, OF_FIELDS.as_slice()),
             OldTable::Choices => has_each(table, OF_CHOICES.as_slice()),
             OldTable::Records => has_each(table, OF_RECORDS.as_slice()),
-            OldTable::Versions => has_each(table, OF_VERSIONS.as_slice()),
+            OldTable::Versions => has_version_arrows(older, table),
             OldTable::Entries => has_each(table, OF_ENTRIES.as_slice()),
             OldTable::Signatures => has_each(table, OF_SIGNATURES.as_slice()),
             OldTable::Trail => has_each(table, OF_TRAIL.as_slice()),
@@ -201,9 +253,9 @@ impl OldTable {
     }
 
     /// Whether a table of a file is like this one: it has the columns, an id and the references.
-    pub(crate) fn is_like(self, table: &Table) -> bool
-        ensures { result ≡ is_like (own_table self) table.now }
+    pub(crate) fn is_like(self, older: Older, table: &Table) -> bool
+        ensures { result ≡ is_like (own_table older self) table.now }
     {
-        self.has_columns_in(table) && has_id(table) && self.has_arrows_in(table)
+        self.has_columns_in(older, table) && has_id(table) && self.has_arrows_in(older, table)
     }
 }

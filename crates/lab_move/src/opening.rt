@@ -1,4 +1,4 @@
-//! An old file is opened, where it is one of schema 2.
+//! An old file is opened, where it is one of an older schema of which files are moved.
 
 ghost use Rattle.std.specs.Prelude.{◌≡◌, ◌≢◌, ◌⊎◌, [], Ok, Err, IfOk, IfErr};
 ghost use Rattle.sqlite_value.specs.Order.{column};
@@ -8,19 +8,18 @@ ghost use Rattle.lab_store_files.specs.declared.faults.FileFault.TheVariants.{No
 ghost use Rattle.lab_store_files.specs.Faults.{FailedInStore};
 ghost use Rattle.lab_store_files.specs.Verdicts.{integer_in, number_query, number_shown};
 ghost use Rattle.lab_move_tables.specs.Reading.{ReadsOld};
+ghost use Rattle.lab_move_tables.specs.declared.older.Older.{Older as AnyOlder};
 ghost use Rattle.lab_move.specs.Faults.{IsOfStore};
-ghost use Rattle.lab_move.specs.OldFiles.{whole_verdict, number_verdict, old_verdict, OldAnswers, IsNamedOldFile};
+ghost use Rattle.lab_move.specs.OldFiles.{older_of, whole_verdict, other_verdict, named_verdict, old_verdict, OldAnswers, IsNamedOldFile};
 
 use crate::faults::store_fault;
 use crate::schemas::{has_number, is_whole};
+use lab_move_tables::Older;
 use lab_store_files::FileFault;
 use lab_store_read::{ReadFault, Readable, read_fault};
 use sqlite::types::ValueRef;
 use sqlite::{Alter, Connection, Row};
 use sqlite_schema::schema::Schema;
-
-/// The number of the schema of an old file.
-const SCHEMA: i64 = 2;
 
 /// A file that is to be moved, over a connection to it.
 #[derive(Drop)]
@@ -63,39 +62,56 @@ fn shown_number(rows: &[Row]) -> Option<i64>
     integer_in(&rows[0])
 }
 
-// What a file is that may have all tables of schema 2.
-fn whole_verdict(whole: bool) -> Result<(), FileFault>
-    ensures { result ≡ whole_verdict whole }
+// The older schema that has the number.
+fn with_number(number: i64) -> Option<Older>
+    ensures { result ≡ older_of number }
+{
+    Older::ALL
+        .iter()
+        .find(|one| one.number() == number)
+        .copied()
+}
+
+// What a file is that names an older schema and may have all its tables.
+fn whole_verdict(older: Older, whole: bool) -> Result<Older, FileFault>
+    ensures { result ≡ whole_verdict older whole }
 {
     if whole {
-        Ok(())
+        Ok(older)
     } else {
         Err(FileFault::NotADeskFile)
     }
 }
 
-// What the file is, by the number of its schema.
-fn number_verdict(whole: bool, number: i64) -> Result<(), FileFault>
-    ensures { result ≡ number_verdict whole number }
+// What a file is whose number is that of no older schema.
+fn other_verdict(number: i64) -> Result<Older, FileFault>
+    ensures { result ≡ other_verdict number }
 {
     if number < 1 {
         return Err(FileFault::NotADeskFile);
     }
-    if number < SCHEMA {
+    if number < Older::ALL[0].number() {
         return Err(FileFault::SchemaOld(number.unsigned_abs()));
     }
-    if number > SCHEMA {
-        return Err(FileFault::SchemaNew(number.unsigned_abs()));
+    Err(FileFault::SchemaNew(number.unsigned_abs()))
+}
+
+// What the file is, by the number of its schema.
+fn number_verdict(schema: &Schema, number: i64) -> Result<Older, FileFault>
+    ensures { result ≡ named_verdict schema.now number (older_of number) }
+{
+    match with_number(number) {
+        Some(older) => whole_verdict(older, is_whole(older, schema)),
+        None => other_verdict(number),
     }
-    whole_verdict(whole)
 }
 
 // What the file is, by its schema and by what the question for the number shows.
-fn verdict(schema: &Schema, rows: &[Row]) -> Result<(), FileFault>
+fn verdict(schema: &Schema, rows: &[Row]) -> Result<Older, FileFault>
     ensures { result ≡ old_verdict schema.now rows.now }
 {
     match shown_number(rows) {
-        Some(number) => number_verdict(is_whole(schema), number),
+        Some(number) => number_verdict(schema, number),
         None => Err(FileFault::NotADeskFile),
     }
 }
@@ -113,20 +129,21 @@ fn number_rows<D: Readable>(tables: &mut D) -> Result<Vec<Row>, FileFault>
     }
 }
 
-/// Looks whether a file is one of schema 2, by the one row of the table `desk`, and by whether each
+/// Looks of which older schema a file is, by the one row of the table `desk`, and by whether each
 /// table, column and reference is there, however they were written. Nothing is written. What the
 /// rows say isn't looked at.
 ///
 /// # Errors
 /// None of these files, an older or a newer schema with its number, a refusal of the store, or out
 /// of memory.
-pub fn open_old<S: Alter>(file: &mut OldFile<S>) -> Result<(), FileFault>
+pub fn open_old<S: Alter>(file: &mut OldFile<S>) -> Result<Older, FileFault>
     // The answer is the verdict on the file, or the store gave none:
     ensures answer { HasCleanDisk (state S.Store file.new.conn) →
         OldAnswers (state S.Store file.old.conn) (state S.Store file.new.conn) result }
-    // A file of schema 2 is never refused as another one:
-    ensures ours { HasCleanDisk (state S.Store file.new.conn) →
-        IsNamedOldFile (state S.Store file.old.conn).now → (result ≡ Ok tt) ⊎ FailedInStore result }
+    // A file of an older schema is never refused as another one:
+    ensures ours { HasCleanDisk (state S.Store file.new.conn) → (older : AnyOlder) →
+        IsNamedOldFile older (state S.Store file.old.conn).now →
+        (result ≡ Ok older) ⊎ FailedInStore result }
     // However it ends, the rows are as they were, and a crash leaves no more than before:
     ensures reads { ReadsOld (λ _ _. Unit {0})
         (state S.Store file.old.conn) (state S.Store file.new.conn) result }

@@ -1,4 +1,4 @@
-//! What the schema of an old file has of the tables of schema 2.
+//! What the schema of an old file has of the tables of an older schema.
 
 ghost use Rattle.std.specs.Prelude.{◌≡◌};
 ghost use Rattle.std.specs.List.{list_all};
@@ -7,6 +7,7 @@ ghost use Rattle.lab_store_files.specs.Schemas.{has_column, has_number, table_na
 ghost use Rattle.lab_move.specs.OldFiles.{has_table, is_whole};
 
 use crate::old_tables::OldTable;
+use lab_move_tables::Older;
 use sqlite_schema::names::same_name;
 use sqlite_schema::schema::{Schema, Table};
 
@@ -34,20 +35,22 @@ pub(crate) fn has_all(table: &Table, names: &[&str]) -> bool
     names.iter().all(|name| has_column(table, name))
 }
 
-fn has_table(schema: &Schema, one: OldTable) -> bool
-    ensures { result ≡ has_table schema.now one }
+fn has_table(older: Older, schema: &Schema, one: OldTable) -> bool
+    ensures { result ≡ has_table older schema.now one }
 {
     match table_named(schema, one.name()) {
-        Some(table) => one.is_like(table),
+        Some(table) => one.is_like(older, table),
         None => false,
     }
 }
 
 /// Whether all tables are there, each with its columns, an id and its references.
-pub(crate) fn is_whole(schema: &Schema) -> bool
-    ensures { result ≡ is_whole schema.now }
+pub(crate) fn is_whole(older: Older, schema: &Schema) -> bool
+    ensures { result ≡ is_whole older schema.now }
 {
-    OldTable::ALL.iter().all(|one| has_table(schema, *one))
+    OldTable::ALL
+        .iter()
+        .all(|one| has_table(older, schema, *one))
 }
 
 /// Whether the file can be asked for the number of its schema.

@@ -2,6 +2,7 @@
 use Rattle.std.proofs.Common.{◌≡◌, ℕ, Bool, true, false, ◌&&◌, List, find, Option, Some, None, option_map, Result, Ok, Err, IfOk, refl, sym, ap, ap₂, ◌∙◌, subst}
 use Rattle.std.specs.Prelude.{IfErr, IsErrAnd}
 use Rattle.sqlite_keyed.specs.Keyed.{IsKeyedBy}
+use Rattle.sqlite.specs.Effect.{Database}
 use Rattle.sqlite.specs.State.{State, HasCleanDisk}
 use Rattle.lab_forms_texts.specs.declared.refusals.Fault.{Fault}
 use Rattle.lab_forms_texts.specs.declared.refusals.Fault.TheVariants.{Refused, Memory}
@@ -16,8 +17,7 @@ use Rattle.lab_store_tables.specs.Meaning.{has_code, lab_in, persons_of, session
 use Rattle.lab_store_read_records.specs.declared.heads.LabHead.{LabHead}
 use Rattle.lab_store_read_records.specs.Heads.{lab_head}
 use Rattle.lab_move_tables.specs.KeptLabs.{are_kept_persons, are_kept_sessions, are_kept_forms, are_kept_records, is_kept_trail, is_kept_lab}
-use Rattle.lab_move_tables.specs.Reading.{ReadsOld}
-use Rattle.lab_move_tables.specs.Standing.{StandsFor}
+use Rattle.lab_move_tables.specs.Reading.{ReadsAs}
 use Rattle.lab_move_tables.proofs.OldReaders.{may_both}
 use Rattle.lab_move_read_people.specs.Kept.{where_kept}
 use Rattle.lab_move_read_records.specs.declared.heads.FormAt.{FormAt}
@@ -100,13 +100,13 @@ not_told P (Ok a) fault failed = absurd failed
 not_told P (Err e) fault failed = λ told. absurd (told_apart fault (sym failed ∙ told))
 
 -- two answers, one after the other
-pub both_read : {A B E F : Type 0} {Was : Tables → A → Type 0} {Is : Tables → B → Type 0} {old mid new : State} {a : A} {b : B}
-    → ReadsOld {E = E} Was old mid (Ok a) → ReadsOld {E = F} Is mid new (Ok b) → ReadsOld {T = Unit {0}} {E = ⊥} (λ t _. Was t a × Is t b) old new (Ok tt)
+pub both_read : {Stands : Database → Tables → Type 0} {A B E F : Type 0} {Was : Tables → A → Type 0} {Is : Tables → B → Type 0} {old mid new : State} {a : A} {b : B}
+    → ReadsAs Stands {E = E} Was old mid (Ok a) → ReadsAs Stands {E = F} Is mid new (Ok b) → ReadsAs Stands {T = Unit {0}} {E = ⊥} (λ t _. Was t a × Is t b) old new (Ok tt)
 both_read first next = may_both first next (λ t file was is. (was, is))
 
 -- what they come to together
-pub told_both : {A B E F P : Type 0} {Was : Tables → A → Type 0} {Is : Tables → B → Type 0} {old mid new : State} {a : A} {b : B}
-    → ReadsOld {E = E} Was old mid (Ok a) → ReadsOld {E = F} Is mid new (Ok b) → (t : Tables) → StandsFor old.now t → HasCleanDisk new
+pub told_both : {Stands : Database → Tables → Type 0} {A B E F P : Type 0} {Was : Tables → A → Type 0} {Is : Tables → B → Type 0} {old mid new : State} {a : A} {b : B}
+    → ReadsAs Stands {E = E} Was old mid (Ok a) → ReadsAs Stands {E = F} Is mid new (Ok b) → (t : Tables) → Stands old.now t → HasCleanDisk new
     → (Was t a → Is t b → P) → P
 told_both first next t file clean f = let both = (both_read first next).answer t file clean in f both.0 both.1
 

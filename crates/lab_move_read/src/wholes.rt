@@ -4,8 +4,8 @@ ghost use Rattle.std.specs.Prelude.{◌≡◌, option_map, slice_get, IfOk, IfEr
 ghost use Rattle.sqlite.specs.State.{HasCleanDisk};
 ghost use Rattle.lab_store_read_records.specs.Shown.{lab_read};
 ghost use Rattle.lab_store_tables.specs.Rows.{Tables};
-ghost use Rattle.lab_move_tables.specs.Reading.{ReadsOld};
-ghost use Rattle.lab_move_tables.specs.Standing.{StandsFor};
+ghost use Rattle.lab_move_tables.specs.Reading.{ReadsBy, ReadsOld};
+ghost use Rattle.lab_move_tables.specs.Standing.{StandsBy};
 ghost use Rattle.lab_move_read.specs.declared.faults.WholeFault.TheVariants.{NotKept};
 ghost use Rattle.lab_move_read_people.specs.Kept.{where_kept};
 ghost use Rattle.lab_move_read.specs.Laboratories.{people_with, records_if, work_with, whole_of, lab_with, kept_lab, head_of, people_of, work_of, are_kept_people, is_kept_work, is_kept_head, lab_by, IsLabOf, IsUnkept};
@@ -15,7 +15,7 @@ use lab_forms_texts::{LabCode, Series};
 use lab_move_read_people::cells::count_of;
 use lab_move_read_people::{persons_at, sessions_at, trail_at};
 use lab_move_read_records::{FormAt, forms_alone, forms_at, records_at};
-use lab_move_tables::lab_rows;
+use lab_move_tables::{Older, lab_rows};
 use lab_people_access::{Person, Session};
 use lab_records_kept::{FormVersion, Lab, Record, TrailRow};
 use lab_store_read::cells::{id_of, moment_of, text_of};
@@ -106,13 +106,14 @@ fn people_with(persons: Option<Series<Person>>, sessions: Option<Series<Session>
 fn people_at<D: Readable>(
     alloc: Global,
     conn: &mut D,
+    older: Older,
     head: &LabHead,
 ) -> Result<Option<People>, ReadFault>
-    ensures { ReadsOld (λ t found. found
+    ensures { ReadsBy older (λ t found. found
         ≡ where_kept (are_kept_people t head.now) (people_of t head.now))
         (D.state conn.old) (D.state conn.new) result }
 {
-    let persons = persons_at(alloc, conn, head.id)?;
+    let persons = persons_at(alloc, conn, older, head.id)?;
     let sessions = sessions_at(alloc, conn, head.id, head.sessions)?;
     Ok(people_with(persons, sessions))
 }
@@ -121,16 +122,18 @@ fn people_at<D: Readable>(
 fn records_if<D: Readable>(
     alloc: Global,
     conn: &mut D,
+    older: Older,
     head: &LabHead,
     forms: &Option<Series<FormAt>>,
 ) -> Result<Option<Series<Record>>, ReadFault>
-    ensures { ReadsOld (λ t found. found ≡ records_if t head.now forms.now)
+    ensures { ReadsBy older (λ t found. found ≡ records_if t head.now forms.now)
         (D.state conn.old) (D.state conn.new) result }
 {
     match forms {
         Some(forms) => records_at(
             alloc,
             conn,
+            older,
             head.id,
             &head.code,
             forms.as_slice(),
@@ -164,14 +167,15 @@ fn work_with(
 fn work_at<D: Readable>(
     alloc: Global,
     conn: &mut D,
+    older: Older,
     head: &LabHead,
 ) -> Result<Option<Work>, ReadFault>
-    ensures { ReadsOld (λ t found. found
+    ensures { ReadsBy older (λ t found. found
         ≡ where_kept (is_kept_work t head.now) (work_of t head.now))
         (D.state conn.old) (D.state conn.new) result }
 {
-    let forms = forms_at(alloc, conn, head.id)?;
-    let records = records_if(alloc, conn, head, &forms)?;
+    let forms = forms_at(alloc, conn, older, head.id)?;
+    let records = records_if(alloc, conn, older, head, &forms)?;
     work_with(alloc, forms, records)
 }
 
@@ -217,13 +221,14 @@ fn lab_with(
 fn lab_whole<D: Readable>(
     alloc: Global,
     conn: &mut D,
+    older: Older,
     head: LabHead,
 ) -> Result<Option<Lab>, ReadFault>
-    ensures { ReadsOld (λ t found. found ≡ where_kept (is_kept_head t head) (lab_by t head))
+    ensures { ReadsBy older (λ t found. found ≡ where_kept (is_kept_head t head) (lab_by t head))
         (D.state conn.old) (D.state conn.new) result }
 {
-    let people = people_at(alloc, conn, &head)?;
-    let work = work_at(alloc, conn, &head)?;
+    let people = people_at(alloc, conn, older, &head)?;
+    let work = work_at(alloc, conn, older, &head)?;
     let trail = trail_at(alloc, conn, head.id, head.trail)?;
     Ok(lab_with(head, people, work, trail))
 }
@@ -238,8 +243,7 @@ fn kept_lab(lab: Option<Lab>) -> Result<Option<Lab>, WholeFault>
     }
 }
 
-/// The laboratory of the code, whole, as one of today's: each version of format 1, no form that wants an approval, each verifier
-/// with its rounds. `None` where the file has none of the code. Its rows are well kept, and all that makes them so was tried.
+/// The laboratory of the code, whole, as one of today's, with what the older schema didn't know filled in. `None` where the file has none of the code. Its rows are well kept, and all that makes them so was tried.
 /// However it ends, the rows are as they were, and a crash leaves no more than before.
 ///
 /// # Errors
@@ -247,18 +251,19 @@ fn kept_lab(lab: Option<Lab>) -> Result<Option<Lab>, WholeFault>
 pub fn whole<D: Readable>(
     alloc: Global,
     conn: &mut D,
+    older: Older,
     code: &LabCode,
 ) -> Result<Option<Lab>, WholeFault>
-    ensures reads { ReadsOld (λ t found. IsLabOf t code.now found)
+    ensures reads { ReadsBy older (λ t found. IsLabOf t code.now found)
         (D.state conn.old) (D.state conn.new) result }
-    ensures not_kept { (t : Tables) → StandsFor (D.state conn.old).now t →
+    ensures not_kept { (t : Tables) → StandsBy older (D.state conn.old).now t →
         HasCleanDisk (D.state conn.new) →
         IfErr result (λ fault. fault ≡ NotKept → IsUnkept t code.now) }
 {
     let head = head_at(alloc, conn, code)?;
     match head {
         Some(head) => {
-            let lab = lab_whole(alloc, conn, head)?;
+            let lab = lab_whole(alloc, conn, older, head)?;
             kept_lab(lab)
         }
         None => Ok(None),

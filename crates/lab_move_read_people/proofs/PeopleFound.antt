@@ -1,5 +1,5 @@
 -- What was read of persons, sessions and the trail, as what the tables have, and what was tried of them.
-use Rattle.std.proofs.Common.{◌≡◌, ℕ, ℤ, pos, Bool, true, ◌&&◌, ◌==◌, List, [], ◌∷◌, map, filter, length, slice_get, Option, Some, None, option_map, unwrap_or, refl, sym, ap, ap₂, ◌∙◌, int_eq}
+use Rattle.std.proofs.Common.{◌≡◌, ℕ, ℤ, pos, Bool, true, ◌&&◌, ◌==◌, List, [], ◌∷◌, map, filter, length, slice_get, Option, Some, None, option_map, option_and_then, unwrap_or, refl, sym, ap, ap₂, ◌∙◌, int_eq}
 use Rattle.std.specs.List.{list_all}
 use Rattle.sqlite_keyed.specs.Keyed.{get_by}
 use Rattle.sqlite_keyed.proofs.ListLemmas.{slice_get-filter, map-map, map_same}
@@ -17,6 +17,8 @@ use Rattle.lab_store_read_trail.specs.declared.heads.ToldHead.{ToldHead}
 use Rattle.lab_store_read_trail.specs.Trails.{told_head, told_by}
 use Rattle.lab_store_read_trail.specs.Shown.{told_read}
 use Rattle.lab_move_tables.specs.OldRows.{beside, old_rounds}
+use Rattle.lab_move_tables.specs.declared.older.Older.{Older}
+use Rattle.lab_move_tables.specs.declared.older.Older.TheVariants.{Two}
 use Rattle.lab_move_tables.specs.Standing.{AreLifted}
 use Rattle.lab_move_tables.specs.Owned.{own_persons, own_sessions, own_trail, lab_of}
 use Rattle.lab_move_tables.specs.KeptLabs.{run, is_theirs, is_nobody_or_theirs, are_kept_persons, are_kept_sessions, is_kept_trail}
@@ -46,7 +48,7 @@ list_all_same : {X : Type 0} (p q : X → Bool) → ((x : X) → p x ≡ q x) �
 list_all_same p q same [] = refl
 list_all_same p q same (x ∷ xs) = ap₂ ◌&&◌ (same x) (list_all_same p q same xs)
 
-password_back : (one : PersonRow) → IsOldPerson one → password_cells (person_shown one) ≡ one.password
+password_back : (one : PersonRow) → IsOldPerson Two one → password_cells Two (person_shown Two one) ≡ one.password
 password_back one old = λ i. record {
   kind = one.password.kind;
   salt = blob_back one.password.salt i;
@@ -58,26 +60,31 @@ password_back one old = λ i. record {
   changed = number_back one.password.changed i;
 }
 
-ask_back : (one : PersonRow) → IsOldPerson one → ask_cells (person_shown one) ≡ one.ask
+asked_same : (o : Option ℤ) → option_and_then (λ _. Some old_rounds) o ≡ option_map (λ _. old_rounds) o
+asked_same None = refl
+asked_same (Some asker) = refl
+
+ask_back : (one : PersonRow) → IsOldPerson Two one → ask_cells Two (person_shown Two one) ≡ one.ask
 ask_back one old = λ i. record {
   asker = id_back one.ask.asker i;
   asked = number_back one.ask.asked i;
   salt = blob_back one.ask.salt i;
-  rounds = (ap (option_map (λ _. old_rounds)) (id_back one.ask.asker) ∙ old.ask_rounds) i;
+  rounds = (ap (option_and_then (λ _. Some old_rounds)) (id_back one.ask.asker) ∙ asked_same one.ask.asker ∙ old.ask_rounds) i;
   bytes = blob_back one.ask.bytes i;
 }
 
-person_back : (one : PersonRow) → IsOldPerson one → person_read (person_shown one) ≡ person_head one
-person_back one old = λ i. record (person_head one) {
+person_back : (older : Older) (one : PersonRow) → IsOldPerson older one → person_read older (person_shown older one) ≡ person_head one
+person_back Two one old = λ i. record (person_head one) {
   retired = flag_back one.retired i;
   locked = number_back one.locked i;
   password = password_in (password_back one old i);
   ask = ask_head (ask_back one old i);
 }
 
-pub persons_found : (t : Tables) → AreLifted t → (lab : ℤ) → map person_read (persons_shown t lab) ≡ person_heads_of t lab
-persons_found t of lab =
-    map-map person_read person_shown (own_persons t lab) ∙ all_same IsOldPerson (λ one. person_read (person_shown one)) person_head person_back (own_persons t lab) (old_persons t of lab)
+pub persons_found : (older : Older) (t : Tables) → AreLifted older t → (lab : ℤ) → map (person_read older) (persons_shown older t lab) ≡ person_heads_of t lab
+persons_found older t of lab =
+    map-map (person_read older) (person_shown older) (own_persons t lab)
+    ∙ all_same (IsOldPerson older) (λ one. person_read older (person_shown older one)) person_head (person_back older) (own_persons t lab) (old_persons older t of lab)
 
 asker_kept : (t : Tables) (lab : ℤ) (one : PersonRow) → is_kept_head t lab (person_head one) ≡ is_nobody_or_theirs t lab one.ask.asker
 asker_kept t lab one = go one.ask.asker

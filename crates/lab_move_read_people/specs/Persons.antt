@@ -1,6 +1,6 @@
--- What the row of a person is read as; and whether whoever asked for something is of the
+-- What the row of a person is read as, by its schema; and whether whoever asked for something is of the
 -- laboratory.
-use Rattle.std.specs.Prelude.{ℕ, ℤ, Bool, List, Option, Some, option_map, unwrap_or}
+use Rattle.std.specs.Prelude.{ℕ, ℤ, Bool, List, Option, Some, option_map, option_and_then, unwrap_or}
 use Rattle.sqlite_value.specs.Order.{Row, column, bytes}
 use Rattle.sqlite_rules.specs.Edit.{id_in}
 use Rattle.lab_people_access.specs.declared.persons.Ask.{Ask}
@@ -11,48 +11,63 @@ use Rattle.lab_store_read_people.specs.declared.heads.AskHead.{AskHead}
 use Rattle.lab_store_read_people.specs.declared.heads.PersonHead.{PersonHead}
 use Rattle.lab_store_read_people.specs.Heads.{ask_head}
 use Rattle.lab_move_tables.specs.OldRows.{beside, old_rounds}
+use Rattle.lab_move_tables.specs.declared.older.Older.{Older}
+use Rattle.lab_move_tables.specs.declared.older.Older.TheVariants.{Two}
 use Rattle.lab_move_tables.specs.KeptLabs.{is_nobody_or_theirs}
 
-abbrev pub password_cells : Row → PasswordColumns
-password_cells row = record {
+-- ---- what not every older schema shows
+
+-- the rounds of the second half of a one-time word
+abbrev pub rounds2_in : Older → Row → Option ℕ
+rounds2_in Two row =
+    beside (optional_in bytes (column row 10)) (optional_in number_in (column row 8))
+
+-- those of what was asked for
+abbrev pub ask_rounds_in : Older → Row → Option ℕ
+ask_rounds_in Two row = Some old_rounds
+
+-- ---- a person
+
+abbrev pub password_cells : Older → Row → PasswordColumns
+password_cells older row = record {
   kind = number_in (column row 6);
   salt = optional_in bytes (column row 7);
   rounds = optional_in number_in (column row 8);
   bytes = optional_in bytes (column row 9);
   salt2 = optional_in bytes (column row 10);
-  rounds2 = beside (optional_in bytes (column row 10)) (optional_in number_in (column row 8));
+  rounds2 = rounds2_in older row;
   bytes2 = optional_in bytes (column row 11);
   changed = optional_in number_in (column row 12);
 }
 
-abbrev pub ask_cells : Row → AskColumns
-ask_cells row = record {
+abbrev pub ask_cells : Older → Row → AskColumns
+ask_cells older row = record {
   asker = optional_in id_in (column row 13);
   asked = optional_in number_in (column row 14);
   salt = optional_in bytes (column row 15);
-  rounds = option_map (λ _. old_rounds) (optional_in id_in (column row 13));
+  rounds = option_and_then (λ _. ask_rounds_in older row) (optional_in id_in (column row 13));
   bytes = optional_in bytes (column row 16);
 }
 
 -- what the asker asked for
-abbrev pub ask_by_row : Row → ℤ → AskHead
-ask_by_row row asker = record {
+abbrev pub ask_by_row : Older → Row → ℤ → AskHead
+ask_by_row older row asker = record {
   asker = asker;
   asked = unwrap_or (optional_in number_in (column row 14)) 0;
-  first = verifier_in (optional_in bytes (column row 15)) (Some old_rounds)
+  first = verifier_in (optional_in bytes (column row 15)) (ask_rounds_in older row)
       (optional_in bytes (column row 16));
 }
 
-abbrev pub person_read : Row → PersonHead
-person_read row = record {
+abbrev pub person_read : Older → Row → PersonHead
+person_read older row = record {
   code = bytes (column row 0);
   name = bytes (column row 1);
   roles = roles_in (number_in (column row 2));
   retired = flag_in (column row 3);
   failures = number_in (column row 4);
   locked = optional_in number_in (column row 5);
-  password = password_in (password_cells row);
-  ask = ask_head (ask_cells row);
+  password = password_in (password_cells older row);
+  ask = ask_head (ask_cells older row);
 }
 
 -- ---- with whoever asked

@@ -7,9 +7,10 @@ ghost use Rattle.lab_store_tables.specs.Rows.{number_in, optional_in};
 ghost use Rattle.lab_store_tables.specs.Columns.{verifier_in, password_in};
 ghost use Rattle.lab_store_read_people.specs.Heads.{ask_head};
 ghost use Rattle.lab_move_read_people.specs.Cells.{are_null, has_no_password};
-ghost use Rattle.lab_move_read_people.specs.Persons.{password_cells, ask_cells, ask_by_row};
+ghost use Rattle.lab_move_read_people.specs.Persons.{password_cells, ask_cells, ask_by_row, ask_rounds_in};
 
 use crate::cells::{bytes_due, is_null, moment_due, salt_due, small_due};
+use lab_move_tables::Older;
 use lab_people_access::{OLD_ROUNDS, Password};
 use lab_seal_hashes::Verifier;
 use lab_store_read::cells::{id_if, small_of};
@@ -47,8 +48,10 @@ fn are_null(row: &Row, first: usize, second: usize) -> Result<bool, ReadFault>
 
 // A password that was chosen. It has one verifier.
 fn chosen_of_row(row: &Row) -> Result<Password, ReadFault>
-    ensures { let cells = password_cells row.now in IfOk result (λ password. password
-        ≡ Chosen (verifier_in cells.salt cells.rounds cells.bytes) (unwrap_or cells.changed 0)) }
+    ensures { IfOk result (λ password. password
+        ≡ Chosen (verifier_in (optional_in bytes (column row.now 7))
+        (optional_in number_in (column row.now 8)) (optional_in bytes (column row.now 9)))
+        (unwrap_or (optional_in number_in (column row.now 12)) 0)) }
 {
     if !are_null(row, 10, 11)? {
         return Err(ReadFault::Refused(BadStore));
@@ -60,24 +63,26 @@ fn chosen_of_row(row: &Row) -> Result<Password, ReadFault>
 
 // The second verifier of a one-time word, which has a salt of its own.
 #[tactic(auto, using(crate::proofs::Beside::beside_filled))]
-fn second_of_row(row: &Row) -> Result<Verifier, ReadFault>
-    ensures { let cells = password_cells row.now in IfOk result
+fn second_of_row(older: Older, row: &Row) -> Result<Verifier, ReadFault>
+    ensures { let cells = password_cells older row.now in IfOk result
         (λ verifier. verifier ≡ verifier_in cells.salt2 cells.rounds2 cells.bytes2) }
 {
     if is_null(row, 10)? {
         return Err(ReadFault::Refused(BadStore));
     }
-    verifier_of(row, 10, 11)
+    match older {
+        Older::Two => verifier_of(row, 10, 11),
+    }
 }
 
 // A one-time word.
-fn one_time_of_row(row: &Row) -> Result<Password, ReadFault>
-    ensures { let cells = password_cells row.now in IfOk result (λ password. password
+fn one_time_of_row(older: Older, row: &Row) -> Result<Password, ReadFault>
+    ensures { let cells = password_cells older row.now in IfOk result (λ password. password
         ≡ OneTime (verifier_in cells.salt cells.rounds cells.bytes)
         (verifier_in cells.salt2 cells.rounds2 cells.bytes2) (unwrap_or cells.changed 0)) }
 {
     let first = verifier_of(row, 7, 9)?;
-    let second = second_of_row(row)?;
+    let second = second_of_row(older, row)?;
     let confirmed = moment_due(row, 12)?;
     Ok(Password::OneTime {
         first,
@@ -114,8 +119,8 @@ fn unset_of_row(row: &Row) -> Result<Password, ReadFault>
 ///
 /// # Errors
 /// The store refused, a row is none that is written, or memory ran out.
-pub(crate) fn password_of_row(row: &Row) -> Result<Password, ReadFault>
-    ensures { IfOk result (λ password. password ≡ password_in (password_cells row.now)) }
+pub(crate) fn password_of_row(older: Older, row: &Row) -> Result<Password, ReadFault>
+    ensures { IfOk result (λ password. password ≡ password_in (password_cells older row.now)) }
 {
     let kind = small_of(row, 6)?;
     if kind == 0 {
@@ -123,23 +128,33 @@ pub(crate) fn password_of_row(row: &Row) -> Result<Password, ReadFault>
     } else if kind == 1 {
         chosen_of_row(row)
     } else if kind == 2 {
-        one_time_of_row(row)
+        one_time_of_row(older, row)
     } else {
         Err(ReadFault::Refused(BadStore))
     }
 }
 
-// What the asker asked for; its verifier has the rounds that every one has.
-fn ask_by_row(row: &Row, asker: i64) -> Result<AskHead, ReadFault>
-    ensures { IfOk result (λ ask. ask ≡ ask_by_row row.now asker) }
+// The rounds of what was asked for.
+fn ask_rounds_of(older: Older, row: &Row) -> Result<u32, ReadFault>
+    ensures { IfOk result (λ rounds. rounds ≡ unwrap_or (ask_rounds_in older row.now) 0) }
+{
+    match older {
+        Older::Two => Ok(OLD_ROUNDS),
+    }
+}
+
+// What the asker asked for.
+fn ask_by_row(older: Older, row: &Row, asker: i64) -> Result<AskHead, ReadFault>
+    ensures { IfOk result (λ ask. ask ≡ ask_by_row older row.now asker) }
 {
     let asked = moment_due(row, 14)?;
     let salt = salt_due(row, 15)?;
+    let rounds = ask_rounds_of(older, row)?;
     let made = bytes_due(row, 16)?;
     Ok(AskHead {
         asker,
         asked,
-        first: Verifier::from_parts(salt, OLD_ROUNDS, made),
+        first: Verifier::from_parts(salt, rounds, made),
     })
 }
 
@@ -160,11 +175,11 @@ fn unasked_of_row(row: &Row) -> Result<Option<AskHead>, ReadFault>
 ///
 /// # Errors
 /// The store refused, a row is none that is written, or memory ran out.
-pub(crate) fn ask_of_row(row: &Row) -> Result<Option<AskHead>, ReadFault>
-    ensures { IfOk result (λ ask. ask ≡ ask_head (ask_cells row.now)) }
+pub(crate) fn ask_of_row(older: Older, row: &Row) -> Result<Option<AskHead>, ReadFault>
+    ensures { IfOk result (λ ask. ask ≡ ask_head (ask_cells older row.now)) }
 {
     match id_if(row, 13)? {
-        Some(asker) => Ok(Some(ask_by_row(row, asker)?)),
+        Some(asker) => Ok(Some(ask_by_row(older, row, asker)?)),
         None => unasked_of_row(row),
     }
 }

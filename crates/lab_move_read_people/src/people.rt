@@ -5,7 +5,7 @@ ghost use Rattle.std.specs.List.{list_all};
 ghost use Rattle.lab_store_tables.specs.Meaning.{persons_of};
 ghost use Rattle.lab_store_read_people.specs.Heads.{ask_by, person_by, person_heads_of};
 ghost use Rattle.lab_move_tables.specs.KeptLabs.{are_kept_persons};
-ghost use Rattle.lab_move_tables.specs.Reading.{ReadsOld};
+ghost use Rattle.lab_move_tables.specs.Reading.{ReadsBy, ReadsOld};
 ghost use Rattle.lab_move_read_people.specs.Kept.{where_kept};
 ghost use Rattle.lab_move_read_people.specs.Persons.{person_read, is_kept_ask, is_kept_head, asked_by, person_with};
 
@@ -13,7 +13,7 @@ use crate::cells::{flag_of, moment_if, roles_of};
 use crate::owners::theirs_at;
 use crate::passwords::{ask_of_row, password_of_row};
 use lab_forms_texts::{PersonCode, Series};
-use lab_move_tables::person_rows;
+use lab_move_tables::{Older, person_rows};
 use lab_people_access::{Ask, Person};
 use lab_store_read::cells::{small_of, text_of};
 use lab_store_read::{ReadFault, Readable};
@@ -22,15 +22,15 @@ use sqlite::Row;
 use std::alloc::Global;
 
 // The person whom a row shows.
-fn person_of_row(alloc: Global, row: &Row) -> Result<PersonHead, ReadFault>
-    ensures { IfOk result (λ person. person ≡ person_read row.now) }
+fn person_of_row(alloc: Global, older: Older, row: &Row) -> Result<PersonHead, ReadFault>
+    ensures { IfOk result (λ person. person ≡ person_read older row.now) }
 {
     let roles = roles_of(row, 2)?;
     let retired = flag_of(row, 3)?;
     let failures = small_of(row, 4)?;
     let locked = moment_if(row, 5)?;
-    let password = password_of_row(row)?;
-    let ask = ask_of_row(row)?;
+    let password = password_of_row(older, row)?;
+    let ask = ask_of_row(older, row)?;
     let code = text_of(alloc, row, 0)?;
     let name = text_of(alloc, row, 1)?;
     Ok(PersonHead {
@@ -46,12 +46,12 @@ fn person_of_row(alloc: Global, row: &Row) -> Result<PersonHead, ReadFault>
 }
 
 // The persons whom rows show.
-fn persons_of_rows(alloc: Global, rows: &[Row]) -> Result<Vec<PersonHead>, ReadFault>
-    ensures { IfOk result (λ made. made.items ≡ map person_read rows.now) }
+fn persons_of_rows(alloc: Global, older: Older, rows: &[Row]) -> Result<Vec<PersonHead>, ReadFault>
+    ensures { IfOk result (λ made. made.items ≡ map (person_read older) rows.now) }
 {
     let mut made = Vec::new(alloc);
     for row in rows {
-        made.push(person_of_row(alloc, row)?)?;
+        made.push(person_of_row(alloc, older, row)?)?;
     }
     Ok(made)
 }
@@ -60,13 +60,14 @@ fn persons_of_rows(alloc: Global, rows: &[Row]) -> Result<Vec<PersonHead>, ReadF
 fn person_heads_at<D: Readable>(
     alloc: Global,
     conn: &mut D,
+    older: Older,
     lab: i64,
 ) -> Result<Vec<PersonHead>, ReadFault>
-    ensures { ReadsOld (λ t made. made.items ≡ person_heads_of t lab)
+    ensures { ReadsBy older (λ t made. made.items ≡ person_heads_of t lab)
         (D.state conn.old) (D.state conn.new) result }
 {
-    let rows = person_rows(conn, lab)?;
-    persons_of_rows(alloc, &rows)
+    let rows = person_rows(conn, older, lab)?;
+    persons_of_rows(alloc, older, &rows)
 }
 
 // What somebody asked for, where there is somebody.
@@ -165,11 +166,13 @@ fn persons_whole<D: Readable>(
 pub fn persons_at<D: Readable>(
     alloc: Global,
     conn: &mut D,
+    older: Older,
     lab: i64,
 ) -> Result<Option<Series<Person>>, ReadFault>
-    ensures { ReadsOld (λ t found. found ≡ where_kept (are_kept_persons t lab) (persons_of t lab))
+    ensures { ReadsBy older (λ t found. found
+        ≡ where_kept (are_kept_persons t lab) (persons_of t lab))
         (D.state conn.old) (D.state conn.new) result }
 {
-    let heads = person_heads_at(alloc, conn, lab)?;
+    let heads = person_heads_at(alloc, conn, older, lab)?;
     persons_whole(alloc, conn, lab, heads)
 }

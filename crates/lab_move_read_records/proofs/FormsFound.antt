@@ -12,6 +12,8 @@ use Rattle.lab_store_tables.specs.Meaning.{names_of, field_in, fields_of, form_i
 use Rattle.lab_store_read.proofs.Found.{flag_back, text_back, number_back}
 use Rattle.lab_store_read_forms.specs.KindsShown.{kind_cells, name_read}
 use Rattle.lab_store_read_forms.proofs.KindsFound.{kind_named}
+use Rattle.lab_move_tables.specs.declared.older.Older.{Older}
+use Rattle.lab_move_tables.specs.declared.older.Older.TheVariants.{Two}
 use Rattle.lab_move_tables.specs.Standing.{AreLifted}
 use Rattle.lab_move_tables.specs.Owned.{own_forms, own_fields, own_choices}
 use Rattle.lab_move_tables.specs.KeptLabs.{run, next_of, run_by_code, are_kept_names, is_kept_field, are_kept_fields, is_kept_form, are_kept_forms}
@@ -24,7 +26,7 @@ use Rattle.lab_move_read_people.specs.Kept.{where_kept}
 use Rattle.lab_move_read_records.specs.Forms.{field_read, field_head, field_by, is_kept_field_head, field_heads_tried, form_read, form_head, form_heads_of, form_at_by, is_kept_form_head, forms_run, form_at_in, forms_at_of, form_of}
 use Rattle.lab_move_read_people.proofs.Conditions.{unkept, kept_test, kept_is, first_fails}
 use Rattle.lab_move_read_people.proofs.Numbered.{numbered_is, list_all-map}
-use Rattle.lab_move_tables.proofs.OldOnes.{old_forms, all_same}
+use Rattle.lab_move_tables.proofs.OldOnes.{IsOldForm, old_forms, all_same}
 
 -- ---- names
 
@@ -72,8 +74,13 @@ fields_fail t form none = first_fails _ (list_all (is_kept_field t) (own_fields 
 
 -- ---- versions of forms
 
-pub forms_found : (t : Tables) (lab : ℤ) → map form_read (forms_shown t lab) ≡ form_heads_of t lab
-forms_found t lab = map-map form_read form_shown (own_forms t lab)
+form_back : (older : Older) (one : FormRow) → IsOldForm older one → form_read older (form_shown older one) ≡ form_head one
+form_back Two one none = λ i. record (form_head one) { approval = sym none i }
+
+pub forms_found : (older : Older) (t : Tables) → AreLifted older t → (lab : ℤ) → map (form_read older) (forms_shown older t lab) ≡ form_heads_of t lab
+forms_found older t of lab =
+    map-map (form_read older) (form_shown older) (own_forms t lab)
+    ∙ all_same (IsOldForm older) (λ one. form_read older (form_shown older one)) form_head (form_back older) (own_forms t lab) (old_forms older t of lab)
 
 runs : (before : Option FormRow) (forms : List FormRow)
     → forms_run (option_map form_head before) (map form_head forms) ≡ run_by_code (λ (form : FormRow). form.code) (λ (form : FormRow). form.version) before forms
@@ -85,21 +92,18 @@ runs before (one ∷ others) = ap₂ (λ n more. (one.version == n) && more) (ne
     next None = refl
     next (Some other) = refl
 
-form_built : (t : Tables) (one : FormRow) → one.approval ≡ false → form_at_by t (form_head one) ≡ form_at_in t one
-form_built t one none = λ i. record (form_at_in t one) { form = record (form_in t one) { form = record { fields = fields_of t one.id; approval = sym none i } } }
-
 pub forms_tried : (t : Tables) (lab : ℤ) (heads : List FormHead) → heads ≡ form_heads_of t lab
     → forms_run None heads ≡ run_by_code (λ (form : FormRow). form.code) (λ (form : FormRow). form.version) None (own_forms t lab)
 forms_tried t lab heads is = ap (forms_run None) is ∙ runs None (own_forms t lab)
 
-pub forms_done : (t : Tables) → AreLifted t → (lab : ℤ) (heads : List FormHead) (found : Option (List FormAt)) → heads ≡ form_heads_of t lab → forms_run None heads ≡ true
+pub forms_done : (t : Tables) (lab : ℤ) (heads : List FormHead) (found : Option (List FormAt)) → heads ≡ form_heads_of t lab → forms_run None heads ≡ true
     → found ≡ where_kept (list_all (is_kept_form_head t) heads) (map (form_at_by t) heads)
     → found ≡ where_kept (are_kept_forms t lab) (forms_at_of t lab)
-forms_done t of lab heads found is passes so =
+forms_done t lab heads found is passes so =
     let own = own_forms t lab in
     so ∙ ap (λ l. where_kept (list_all (is_kept_form_head t) l) (map (form_at_by t) l)) is
     ∙ ap₂ where_kept (list_all-map (is_kept_form_head t) form_head own)
-    (map-map (form_at_by t) form_head own ∙ all_same (λ one. one.approval ≡ false) (λ one. form_at_by t (form_head one)) (form_at_in t) (form_built t) own (old_forms t of lab))
+    (map-map (form_at_by t) form_head own)
     ∙ ap (λ b. where_kept (b && list_all (is_kept_form t) own) (forms_at_of t lab)) (sym passes ∙ forms_tried t lab heads is)
 
 pub forms_fail : (t : Tables) (lab : ℤ) (heads : List FormHead) → heads ≡ form_heads_of t lab → forms_run None heads ≡ false → None ≡ where_kept (are_kept_forms t lab) (forms_at_of t lab)

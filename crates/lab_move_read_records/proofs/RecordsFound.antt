@@ -24,6 +24,8 @@ use Rattle.lab_store_read_records.specs.declared.heads.RecordHead.{RecordHead}
 use Rattle.lab_store_read_records.specs.Heads.{record_head}
 use Rattle.lab_store_read_records.specs.Shown.{record_head_of}
 use Rattle.lab_store_read_forms.specs.Wholes.{record_with}
+use Rattle.lab_move_tables.specs.declared.older.Older.{Older}
+use Rattle.lab_move_tables.specs.declared.older.Older.TheVariants.{Two}
 use Rattle.lab_move_tables.specs.Standing.{AreLifted}
 use Rattle.lab_move_tables.specs.Owned.{own_forms, own_records, own_versions, own_entries, own_signatures, lab_of}
 use Rattle.lab_move_tables.specs.KeptLabs.{run, is_theirs, are_kept_entries, are_kept_signatures, is_kept_version, are_so_many, are_kept_versions, is_kept_record, are_so_many_records, are_kept_records}
@@ -52,67 +54,72 @@ counted_by show place at number is xs =
     counted_is show at (length (map place xs)) number is xs
     ∙ ap (λ b. b && run number xs) (ap (λ n. length xs == n) (length-map xs place) ∙ same_number (length xs))
 
-entries_done : (t : Tables) → AreLifted t → (lab version : ℤ)
+entries_done : (older : Older) (t : Tables) → AreLifted older t → (lab version : ℤ)
     → where_kept (are_counted 6 (length (entry_places_shown t version)) (entries_shown t version) && are_owned 7 lab (entries_shown t version)) (map entry_read (entries_shown t version))
     ≡ where_kept (are_kept_entries t lab version) (entries_of t version)
-entries_done t of lab version =
+entries_done older t of lab version =
     let own = own_entries t version in
     ap₂ where_kept (ap₂ ◌&&◌ (counted_by (entry_shown t) entry_place_shown 6 (λ (one : EntryRow). one.place) (λ one. refl) own)
     (owned_is (entry_shown t) 7 lab (λ (one : EntryRow). lab_of t one.person) (λ one. refl) own))
     (map-map entry_read (entry_shown t) own
-    ∙ all_same _ (λ one. entry_read (entry_shown t one)) (entry_in t) (λ one old. λ i. record (entry_in t one) { reason = old i }) own (old_entries t of version))
+    ∙ all_same _ (λ one. entry_read (entry_shown t one)) (entry_in t) (λ one old. λ i. record (entry_in t one) { reason = old i }) own (old_entries older t of version))
 
-signatures_done : (t : Tables) → AreLifted t → (lab version : ℤ)
+signatures_done : (older : Older) (t : Tables) → AreLifted older t → (lab version : ℤ)
     → where_kept (are_counted 7 (length (signature_places_shown t version)) (signatures_shown t version) && are_owned 8 lab (signatures_shown t version)) (map signature_read (signatures_shown t version))
     ≡ where_kept (are_kept_signatures t lab version) (signatures_of t version)
-signatures_done t of lab version =
+signatures_done older t of lab version =
     let own = own_signatures t version in
     ap₂ where_kept (ap₂ ◌&&◌ (counted_by (signature_shown t) signature_place_shown 7 (λ (one : SignatureRow). one.place) (λ one. refl) own)
     (owned_is (signature_shown t) 8 lab (λ (one : SignatureRow). lab_of t one.person) (λ one. refl) own))
     (map-map signature_read (signature_shown t) own
-    ∙ all_same _ (λ one. signature_read (signature_shown t one)) (signature_in t) (λ one old. λ i. record (signature_in t one) { meaning = meaning_in one.meaning (old i) }) own (old_signatures t of version))
+    ∙ all_same _ (λ one. signature_read (signature_shown t one)) (signature_in t) (λ one old. λ i. record (signature_in t one) { meaning = meaning_in one.meaning (old i) }) own (old_signatures older t of version))
 
 -- as the rows of a file show them, with NULL or an empty text for no reason
-pub entries_shown_so : (t : Tables) → AreLifted t → (lab version : ℤ) (rows places : List Row) → map (said_at 5) rows ≡ entries_shown t version → places ≡ entry_places_shown t version
+pub entries_shown_so : (older : Older) (t : Tables) → AreLifted older t → (lab version : ℤ) (rows places : List Row) → map (said_at 5) rows ≡ entries_shown t version → places ≡ entry_places_shown t version
     → where_kept (are_counted 6 (length places) rows && are_owned 7 lab rows) (map entry_read rows) ≡ where_kept (are_kept_entries t lab version) (entries_of t version)
-entries_shown_so t of lab version rows places shown placed =
+entries_shown_so older t of lab version rows places shown placed =
     sym (ap₂ where_kept (ap₂ ◌&&◌ (counted_said 5 6 (λ e. cc) (length places) rows) (owned_said 5 7 (λ e. cc) lab rows)) (map-map entry_read (said_at 5) rows ∙ map_same _ _ entry_said rows))
-    ∙ ap₂ (λ l n. where_kept (are_counted 6 n l && are_owned 7 lab l) (map entry_read l)) shown (ap length placed) ∙ entries_done t of lab version
+    ∙ ap₂ (λ l n. where_kept (are_counted 6 n l && are_owned 7 lab l) (map entry_read l)) shown (ap length placed) ∙ entries_done older t of lab version
 
-pub signatures_shown_so : (t : Tables) → AreLifted t → (lab version : ℤ) (rows places : List Row) → map (said_at 3) rows ≡ signatures_shown t version → places ≡ signature_places_shown t version
+pub signatures_shown_so : (older : Older) (t : Tables) → AreLifted older t → (lab version : ℤ) (rows places : List Row) → map (said_at 3) rows ≡ signatures_shown t version → places ≡ signature_places_shown t version
     → where_kept (are_counted 7 (length places) rows && are_owned 8 lab rows) (map signature_read rows) ≡ where_kept (are_kept_signatures t lab version) (signatures_of t version)
-signatures_shown_so t of lab version rows places shown placed =
+signatures_shown_so older t of lab version rows places shown placed =
     sym (ap₂ where_kept (ap₂ ◌&&◌ (counted_said 3 7 (λ e. cc) (length places) rows) (owned_said 3 8 (λ e. cc) lab rows)) (map-map signature_read (said_at 3) rows ∙ map_same _ _ signature_said rows))
-    ∙ ap₂ (λ l n. where_kept (are_counted 7 n l && are_owned 8 lab l) (map signature_read l)) shown (ap length placed) ∙ signatures_done t of lab version
+    ∙ ap₂ (λ l n. where_kept (are_counted 7 n l && are_owned 8 lab l) (map signature_read l)) shown (ap length placed) ∙ signatures_done older t of lab version
 
 -- ---- versions
 
-versions_found : (t : Tables) → AreLifted t → (kept : ℤ) (count : ℕ)
-    → where_kept (are_counted 1 count (versions_shown t kept)) (map version_read (versions_shown t kept)) ≡ version_heads_tried t kept count
-versions_found t of kept count =
+version_back : (older : Older) (t : Tables) (one : VersionRow) → IsOldVersion older one → version_read older (version_shown older t one) ≡ version_head t one
+version_back Two t one old = λ i. record (version_head t one) { format = sym old.format i; reason = old.reason i }
+
+version_number : (older : Older) (t : Tables) (one : VersionRow) → number_in (column (version_shown older t one) 1) ≡ one.number
+version_number Two t one = refl
+
+versions_found : (older : Older) (t : Tables) → AreLifted older t → (kept : ℤ) (count : ℕ)
+    → where_kept (are_counted 1 count (versions_shown older t kept)) (map (version_read older) (versions_shown older t kept)) ≡ version_heads_tried t kept count
+versions_found older t of kept count =
     let own = own_versions t kept in
-    ap₂ where_kept (counted_is (version_shown t) 1 count (λ (one : VersionRow). one.number) (λ one. refl) own)
-    (map-map version_read (version_shown t) own
-    ∙ all_same IsOldVersion (λ one. version_read (version_shown t one)) (version_head t) (λ one old. λ i. record (version_head t one) { reason = old.reason i }) own (old_versions t of kept))
+    ap₂ where_kept (counted_is (version_shown older t) 1 count (λ (one : VersionRow). one.number) (version_number older t) own)
+    (map-map (version_read older) (version_shown older t) own
+    ∙ all_same (IsOldVersion older) (λ one. version_read older (version_shown older t one)) (version_head t) (version_back older t) own (old_versions older t of kept))
 
-pub versions_shown_so : (t : Tables) → AreLifted t → (kept : ℤ) (count : ℕ) (rows : List Row) → map (said_at 4) rows ≡ versions_shown t kept
-    → where_kept (are_counted 1 count rows) (map version_read rows) ≡ version_heads_tried t kept count
-versions_shown_so t of kept count rows shown =
-    sym (ap₂ where_kept (counted_said 4 1 (λ e. cc) count rows) (map-map version_read (said_at 4) rows ∙ map_same _ _ version_said rows))
-    ∙ ap (λ l. where_kept (are_counted 1 count l) (map version_read l)) shown ∙ versions_found t of kept count
+pub versions_shown_so : (older : Older) (t : Tables) → AreLifted older t → (kept : ℤ) (count : ℕ) (rows : List Row) → map (said_at 4) rows ≡ versions_shown older t kept
+    → where_kept (are_counted 1 count rows) (map (version_read older) rows) ≡ version_heads_tried t kept count
+versions_shown_so older t of kept count rows shown =
+    sym (ap₂ where_kept (counted_said 4 1 (λ e. cc) count rows) (map-map (version_read older) (said_at 4) rows ∙ map_same _ _ (version_said older) rows))
+    ∙ ap (λ l. where_kept (are_counted 1 count l) (map (version_read older) l)) shown ∙ versions_found older t of kept count
 
-pub leaves_done : (t : Tables) → AreLifted t → (lab kept : ℤ) (count : ℕ) (heads : List VersionHead) (found : Option (List Leaf))
+pub leaves_done : (t : Tables) (lab kept : ℤ) (count : ℕ) (heads : List VersionHead) (found : Option (List Leaf))
     → Some heads ≡ version_heads_tried t kept count → found ≡ where_kept (list_all (is_kept_leaf t lab) heads) (map (leaf_by t) heads)
     → found ≡ where_kept (are_kept_versions t lab kept count) (leaves_of t kept)
-leaves_done t of lab kept count heads found is so =
+leaves_done t lab kept count heads found is so =
     let own = own_versions t kept in
     let many = are_so_many t kept count in
     let passes : many ≡ true = kept_test many (map (version_head t) own) heads is in
     let same : heads ≡ map (version_head t) own = kept_is many (map (version_head t) own) heads is in
     so ∙ ap (λ l. where_kept (list_all (is_kept_leaf t lab) l) (map (leaf_by t) l)) same
     ∙ ap₂ where_kept (list_all-map (is_kept_leaf t lab) (version_head t) own)
-    (map-map (leaf_by t) (version_head t) own
-    ∙ all_same IsOldVersion (λ one. leaf_by t (version_head t one)) (leaf_in t) (λ one old. λ i. record (leaf_in t one) { format = sym old.format i }) own (old_versions t of kept))
+    (map-map (leaf_by t) (version_head t) own)
     ∙ ap (λ b. where_kept (b && list_all (is_kept_version t lab) own) (leaves_of t kept)) (sym passes)
 
 pub leaves_fail : (t : Tables) (lab kept : ℤ) (count : ℕ) → None ≡ version_heads_tried t kept count → None ≡ where_kept (are_kept_versions t lab kept count) (leaves_of t kept)

@@ -12,7 +12,9 @@ use Rattle.lab_move_tables.specs.OldRows.{reason_in}
 use Rattle.lab_move_tables.specs.Showing.{said, said_at}
 use Rattle.lab_move_tables.specs.Checks.{are_numbered_after, are_owned}
 use Rattle.lab_move_read_people.specs.Kept.{are_counted}
-use Rattle.lab_move_read_records.specs.Records.{entry_read, signature_read, version_read}
+use Rattle.lab_move_tables.specs.declared.older.Older.{Older}
+use Rattle.lab_move_tables.specs.declared.older.Older.TheVariants.{Two}
+use Rattle.lab_move_read_records.specs.Records.{entry_read, signature_read, format_in, version_read}
 
 -- ---- a row
 
@@ -63,10 +65,14 @@ signature_said row = λ i. record {
   seal = bytes (other 3 6 (λ e. cc) row i);
 }
 
-pub version_said : (row : Row) → version_read (said_at 4 row) ≡ version_read row
-version_said row = λ i. record {
+format_said : (older : Older) (row : Row) → format_in older (said_at 4 row) ≡ format_in older row
+format_said Two row = refl
+
+pub version_said : (older : Older) (row : Row) → version_read older (said_at 4 row) ≡ version_read older row
+version_said older row = λ i. record {
   id = id_in (other 4 0 (λ e. cc) row i);
   number = number_in (other 4 1 (λ e. cc) row i);
+  format = format_said older row i;
   opener = bytes (other 4 2 (λ e. cc) row i);
   opened = number_in (other 4 3 (λ e. cc) row i);
   reason = reason_kept 4 row i;

@@ -12,6 +12,8 @@ use Rattle.lab_store_tables.specs.Columns.{kind_in}
 use Rattle.lab_store_tables.specs.Meaning.{fields_of, names_of, form_in}
 use Rattle.lab_store_read_forms.specs.Kinds.{kind_with}
 use Rattle.lab_store_read_forms.specs.KindsShown.{kind_cells}
+use Rattle.lab_move_tables.specs.declared.older.Older.{Older}
+use Rattle.lab_move_tables.specs.declared.older.Older.TheVariants.{Two}
 use Rattle.lab_move_tables.specs.Owned.{own_forms, own_fields}
 use Rattle.lab_move_tables.specs.KeptLabs.{run, next_of, are_kept_names, are_kept_fields}
 use Rattle.lab_move_read_records.specs.declared.heads.FieldHead.{FieldHead}
@@ -67,28 +69,38 @@ field_heads_tried t form =
 
 -- ---- versions of forms
 
-abbrev pub form_read : Row → FormHead
-form_read row = record {
+-- whether the form wants an approval: none did where no schema knew it
+abbrev pub approval_in : Older → Row → Bool
+approval_in Two row = false
+
+abbrev pub form_read : Older → Row → FormHead
+form_read older row = record {
   id = id_in (column row 0);
   code = bytes (column row 1);
   version = number_in (column row 2);
+  approval = approval_in older row;
 }
 
 abbrev pub form_head : FormRow → FormHead
-form_head one = record { id = one.id; code = one.code; version = one.version }
+form_head one = record {
+  id = one.id;
+  code = one.code;
+  version = one.version;
+  approval = one.approval;
+}
 
 abbrev pub form_heads_of : Tables → ℤ → List FormHead
 form_heads_of t lab = map form_head (own_forms t lab)
 
--- of these fields; it wants no approval
-abbrev pub form_made : List Field → FormSheet
-form_made fields = record { fields = fields; approval = false }
+-- of these fields, and whether it wants an approval
+abbrev pub form_made : List Field → Bool → FormSheet
+form_made fields approval = record { fields = fields; approval = approval }
 
 -- of these fields
 abbrev pub form_with : FormHead → List Field → FormAt
 form_with head fields = record {
   id = head.id;
-  form = record { code = head.code; version = head.version; form = form_made fields };
+  form = record { code = head.code; version = head.version; form = form_made fields head.approval };
 }
 
 abbrev pub form_at_by : Tables → FormHead → FormAt
@@ -97,7 +109,7 @@ form_at_by t head = record {
   form = record {
     code = head.code;
     version = head.version;
-    form = form_made (fields_of t head.id);
+    form = form_made (fields_of t head.id) head.approval;
   };
 }
 

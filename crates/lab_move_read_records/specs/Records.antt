@@ -17,6 +17,8 @@ use Rattle.lab_store_read_records.specs.declared.leaves.VersionLeaf.{VersionLeaf
 use Rattle.lab_store_read_records.specs.Heads.{record_head}
 use Rattle.lab_store_read_records.specs.Leaves.{leaf_of}
 use Rattle.lab_store_read_forms.specs.Wholes.{record_with}
+use Rattle.lab_move_tables.specs.declared.older.Older.{Older}
+use Rattle.lab_move_tables.specs.declared.older.Older.TheVariants.{Two}
 use Rattle.lab_move_tables.specs.OldRows.{reason_in}
 use Rattle.lab_move_tables.specs.Owned.{own_records, own_versions, lab_of}
 use Rattle.lab_move_tables.specs.KeptLabs.{are_kept_entries, are_kept_signatures, are_so_many, are_kept_versions, are_so_many_records}
@@ -49,10 +51,15 @@ signature_read row = record {
 
 -- ---- versions
 
-abbrev pub version_read : Row → VersionHead
-version_read row = record {
+-- the format of its text: the first where no schema knew another
+abbrev pub format_in : Older → Row → ℕ
+format_in Two row = 1
+
+abbrev pub version_read : Older → Row → VersionHead
+version_read older row = record {
   id = id_in (column row 0);
   number = number_in (column row 1);
+  format = format_in older row;
   opener = bytes (column row 2);
   opened = number_in (column row 3);
   reason = reason_in (column row 4);
@@ -63,17 +70,18 @@ abbrev pub version_head : Tables → VersionRow → VersionHead
 version_head t one = record {
   id = one.id;
   number = one.number;
+  format = one.format;
   opener = code_of t one.opener;
   opened = one.opened;
   reason = one.reason;
   lab = lab_of t one.opener;
 }
 
--- the version that has the row; its text is of format 1
+-- the version that has the row
 abbrev pub leaf_by : Tables → VersionHead → Leaf
 leaf_by t head = record {
   number = head.number;
-  format = 1;
+  format = head.format;
   opener = head.opener;
   opened = head.opened;
   reason = head.reason;
@@ -85,7 +93,7 @@ leaf_by t head = record {
 abbrev pub leaf_of_rows : VersionHead → List Entry → List Signature → Leaf
 leaf_of_rows head rows signatures = record {
   number = head.number;
-  format = 1;
+  format = head.format;
   opener = head.opener;
   opened = head.opened;
   reason = head.reason;

@@ -5,7 +5,7 @@ ghost use Rattle.std.specs.List.{list_all};
 ghost use Rattle.lab_store_read_records.specs.Leaves.{leaf_of};
 ghost use Rattle.lab_store_read_records.specs.Shown.{record_head_of};
 ghost use Rattle.lab_store_read_forms.specs.Wholes.{record_with};
-ghost use Rattle.lab_move_tables.specs.Reading.{ReadsOld};
+ghost use Rattle.lab_move_tables.specs.Reading.{ReadsBy, ReadsOld};
 ghost use Rattle.lab_move_read_people.specs.Kept.{where_kept, are_counted};
 ghost use Rattle.lab_move_read_records.specs.Records.{named_form, record_if, leaves_in, is_kept_record_head, record_by, record_heads_tried, are_kept_records_by, records_by};
 
@@ -14,7 +14,7 @@ use crate::heads::FormAt;
 use crate::leaves::leaves_at;
 use lab_forms_texts::{Key, LabCode, Series};
 use lab_move_read_people::cells::are_counted;
-use lab_move_tables::record_rows;
+use lab_move_tables::{Older, record_rows};
 use lab_records_kept::{FormVersion, Record};
 use lab_store_read::cells::{id_of, ordinal_of, small_of, text_of};
 use lab_store_read::{ReadFault, Readable};
@@ -166,17 +166,18 @@ fn record_if(
 fn record_whole<D: Readable>(
     alloc: Global,
     conn: &mut D,
+    older: Older,
     lab: i64,
     code: &LabCode,
     forms: &[FormAt],
     head: RecordHead,
 ) -> Result<Option<Record>, ReadFault>
-    ensures { ReadsOld (λ t found. found
+    ensures { ReadsBy older (λ t found. found
         ≡ where_kept (is_kept_record_head t lab forms.now head)
         (record_by t code.now forms.now head))
         (D.state conn.old) (D.state conn.new) result }
 {
-    let leaves = leaves_at(alloc, conn, lab, head.id, head.current)?;
+    let leaves = leaves_at(alloc, conn, older, lab, head.id, head.current)?;
     let form = named_form(forms, &head)?;
     record_if(alloc, code, head, form, leaves)
 }
@@ -185,19 +186,20 @@ fn record_whole<D: Readable>(
 fn records_whole<D: Readable>(
     alloc: Global,
     conn: &mut D,
+    older: Older,
     lab: i64,
     code: &LabCode,
     forms: &[FormAt],
     heads: Vec<RecordHead>,
 ) -> Result<Option<Series<Record>>, ReadFault>
-    ensures { ReadsOld (λ t found. found
+    ensures { ReadsBy older (λ t found. found
         ≡ where_kept (list_all (is_kept_record_head t lab forms.now) heads.items)
         (map (record_by t code.now forms.now) heads.items))
         (D.state conn.old) (D.state conn.new) result }
 {
     let mut made = Series::new(alloc);
     for head in heads {
-        let Some(kept) = record_whole(alloc, conn, lab, code, forms, head)? else {
+        let Some(kept) = record_whole(alloc, conn, older, lab, code, forms, head)? else {
             return Ok(None);
         };
         made.push(kept)?;
@@ -213,19 +215,20 @@ fn records_whole<D: Readable>(
 pub fn records_at<D: Readable>(
     alloc: Global,
     conn: &mut D,
+    older: Older,
     lab: i64,
     code: &LabCode,
     forms: &[FormAt],
     count: u64,
 ) -> Result<Option<Series<Record>>, ReadFault>
-    ensures { ReadsOld (λ t found. found
+    ensures { ReadsBy older (λ t found. found
         ≡ where_kept (are_kept_records_by t lab forms.now count)
         (records_by t lab code.now forms.now))
         (D.state conn.old) (D.state conn.new) result }
 {
     let heads = record_heads_at(alloc, conn, lab, count)?;
     match heads {
-        Some(heads) => records_whole(alloc, conn, lab, code, forms, heads.into_vec()),
+        Some(heads) => records_whole(alloc, conn, older, lab, code, forms, heads.into_vec()),
         None => Ok(None),
     }
 }

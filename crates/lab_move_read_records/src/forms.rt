@@ -5,7 +5,7 @@ ghost use Rattle.std.specs.Option.{option_copied};
 ghost use Rattle.std.specs.List.{list_all};
 ghost use Rattle.std.specs.Ordering.{int_eq};
 ghost use Rattle.lab_move_tables.specs.KeptLabs.{are_kept_forms};
-ghost use Rattle.lab_move_tables.specs.Reading.{ReadsOld};
+ghost use Rattle.lab_move_tables.specs.Reading.{ReadsBy, ReadsOld};
 ghost use Rattle.lab_move_read_people.specs.Kept.{where_kept};
 ghost use Rattle.lab_move_read_records.specs.Forms.{form_read, form_heads_of, form_at_by, form_of, form_with, form_made, form_follows, forms_run, forms_at_of, form_among, is_kept_form_head};
 
@@ -13,7 +13,7 @@ use crate::fields::fields_at;
 use crate::heads::{FormAt, FormHead};
 use lab_forms::{Field, Form};
 use lab_forms_texts::Series;
-use lab_move_tables::form_rows;
+use lab_move_tables::{Older, form_rows};
 use lab_records_kept::FormVersion;
 use lab_store_read::cells::{id_of, ordinal_of, text_of};
 use lab_store_read::{BadStore, ReadFault, Readable};
@@ -21,22 +21,30 @@ use sqlite::Row;
 use std::alloc::Global;
 
 // The version of a form that a row shows.
-fn form_of_row(alloc: Global, row: &Row) -> Result<FormHead, ReadFault>
-    ensures { IfOk result (λ form. form ≡ form_read row.now) }
+fn form_of_row(alloc: Global, older: Older, row: &Row) -> Result<FormHead, ReadFault>
+    ensures { IfOk result (λ form. form ≡ form_read older row.now) }
 {
     let id = id_of(row, 0)?;
     let version = ordinal_of(row, 2)?;
+    let approval = match older {
+        Older::Two => false,
+    };
     let code = text_of(alloc, row, 1)?;
-    Ok(FormHead { id, code, version })
+    Ok(FormHead {
+        id,
+        code,
+        version,
+        approval,
+    })
 }
 
 // The versions of forms that rows show.
-fn forms_of_rows(alloc: Global, rows: &[Row]) -> Result<Vec<FormHead>, ReadFault>
-    ensures { IfOk result (λ made. made.items ≡ map form_read rows.now) }
+fn forms_of_rows(alloc: Global, older: Older, rows: &[Row]) -> Result<Vec<FormHead>, ReadFault>
+    ensures { IfOk result (λ made. made.items ≡ map (form_read older) rows.now) }
 {
     let mut made = Vec::new(alloc);
     for row in rows {
-        made.push(form_of_row(alloc, row)?)?;
+        made.push(form_of_row(alloc, older, row)?)?;
     }
     Ok(made)
 }
@@ -45,20 +53,21 @@ fn forms_of_rows(alloc: Global, rows: &[Row]) -> Result<Vec<FormHead>, ReadFault
 fn form_heads_at<D: Readable>(
     alloc: Global,
     conn: &mut D,
+    older: Older,
     lab: i64,
 ) -> Result<Vec<FormHead>, ReadFault>
-    ensures { ReadsOld (λ t made. made.items ≡ form_heads_of t lab)
+    ensures { ReadsBy older (λ t made. made.items ≡ form_heads_of t lab)
         (D.state conn.old) (D.state conn.new) result }
 {
-    let rows = form_rows(conn, lab)?;
-    forms_of_rows(alloc, &rows)
+    let rows = form_rows(conn, older, lab)?;
+    forms_of_rows(alloc, older, &rows)
 }
 
-// The form of the fields, which wants no approval. There may be none.
-fn form_made(fields: Vec<Field>) -> Option<Form>
-    ensures { IfSome result (λ form. form ≡ form_made fields.items) }
+// The form of the fields. There may be none.
+fn form_made(fields: Vec<Field>, approval: bool) -> Option<Form>
+    ensures { IfSome result (λ form. form ≡ form_made fields.items approval) }
 {
-    match Form::make(fields, false) {
+    match Form::make(fields, approval) {
         Ok(form) => Some(form),
         Err(_) => None,
     }
@@ -70,7 +79,9 @@ fn form_with(head: FormHead, fields: Option<Series<Field>>) -> Result<Option<For
 {
     match fields {
         Some(fields) => {
-            let form = form_made(fields.into_vec()).ok_or(ReadFault::Refused(BadStore))?;
+            let form = form_made(fields.into_vec(), head.approval).ok_or(ReadFault::Refused(
+                BadStore,
+            ))?;
             Ok(Some(FormAt {
                 id: head.id,
                 form: FormVersion {
@@ -157,12 +168,14 @@ fn forms_run(heads: &[FormHead]) -> bool
 pub fn forms_at<D: Readable>(
     alloc: Global,
     conn: &mut D,
+    older: Older,
     lab: i64,
 ) -> Result<Option<Series<FormAt>>, ReadFault>
-    ensures { ReadsOld (λ t found. found ≡ where_kept (are_kept_forms t lab) (forms_at_of t lab))
+    ensures { ReadsBy older (λ t found. found
+        ≡ where_kept (are_kept_forms t lab) (forms_at_of t lab))
         (D.state conn.old) (D.state conn.new) result }
 {
-    let heads = form_heads_at(alloc, conn, lab)?;
+    let heads = form_heads_at(alloc, conn, older, lab)?;
     if !forms_run(&heads) {
         return Ok(None);
     }

@@ -28,6 +28,8 @@ pub struct FormHead {
     pub code: Key,
     /// The number of the version.
     pub version: Ordinal,
+    /// Whether its records want an approval.
+    pub approval: bool,
 }
 
 /// A version of a form by the id of its row.
@@ -46,6 +48,8 @@ pub struct VersionHead {
     pub id: i64,
     /// Its number in the record.
     pub number: Ordinal,
+    /// The number of the format of its text.
+    pub format: u32,
     /// Who opened it.
     pub opener: PersonCode,
     /// When it was opened.

@@ -6,7 +6,7 @@ ghost use Rattle.std.specs.Ordering.{int_eq};
 ghost use Rattle.lab_store_tables.specs.Meaning.{leaves_of};
 ghost use Rattle.lab_store_read_records.specs.Leaves.{leaf_of};
 ghost use Rattle.lab_move_tables.specs.KeptLabs.{are_kept_versions};
-ghost use Rattle.lab_move_tables.specs.Reading.{ReadsOld};
+ghost use Rattle.lab_move_tables.specs.Reading.{ReadsBy, ReadsOld};
 ghost use Rattle.lab_move_read_people.specs.Kept.{where_kept, are_counted};
 ghost use Rattle.lab_move_read_records.specs.Records.{version_read, leaf_of_rows, leaf_with, leaf_by, is_kept_leaf, version_heads_tried, leaves_in};
 
@@ -15,7 +15,7 @@ use crate::heads::VersionHead;
 use crate::signatures::signatures_at;
 use lab_forms_texts::{Ordinal, Series};
 use lab_move_read_people::cells::{are_counted, reason_of};
-use lab_move_tables::version_rows;
+use lab_move_tables::{Older, version_rows};
 use lab_records_kept::Signature;
 use lab_seal_versions::EntryRows;
 use lab_store_read::cells::{id_of, moment_of, ordinal_of, text_of};
@@ -25,11 +25,14 @@ use sqlite::Row;
 use std::alloc::Global;
 
 // The version that a row shows. A first version has no reason.
-fn version_of_row(alloc: Global, row: &Row) -> Result<VersionHead, ReadFault>
-    ensures { IfOk result (λ version. version ≡ version_read row.now) }
+fn version_of_row(alloc: Global, older: Older, row: &Row) -> Result<VersionHead, ReadFault>
+    ensures { IfOk result (λ version. version ≡ version_read older row.now) }
 {
     let id = id_of(row, 0)?;
     let number = ordinal_of(row, 1)?;
+    let format = match older {
+        Older::Two => 1,
+    };
     let opened = moment_of(row, 3)?;
     let lab = id_of(row, 5)?;
     let opener = text_of(alloc, row, 2)?;
@@ -40,6 +43,7 @@ fn version_of_row(alloc: Global, row: &Row) -> Result<VersionHead, ReadFault>
     Ok(VersionHead {
         id,
         number,
+        format,
         opener,
         opened,
         reason,
@@ -48,12 +52,16 @@ fn version_of_row(alloc: Global, row: &Row) -> Result<VersionHead, ReadFault>
 }
 
 // The versions that rows show.
-fn versions_of_rows(alloc: Global, rows: &[Row]) -> Result<Vec<VersionHead>, ReadFault>
-    ensures { IfOk result (λ made. made.items ≡ map version_read rows.now) }
+fn versions_of_rows(
+    alloc: Global,
+    older: Older,
+    rows: &[Row],
+) -> Result<Vec<VersionHead>, ReadFault>
+    ensures { IfOk result (λ made. made.items ≡ map (version_read older) rows.now) }
 {
     let mut made = Vec::new(alloc);
     for row in rows {
-        made.push(version_of_row(alloc, row)?)?;
+        made.push(version_of_row(alloc, older, row)?)?;
     }
     Ok(made)
 }
@@ -61,30 +69,32 @@ fn versions_of_rows(alloc: Global, rows: &[Row]) -> Result<Vec<VersionHead>, Rea
 // The versions that rows show, where they are so many and are numbered.
 fn versions_tried(
     alloc: Global,
+    older: Older,
     rows: &[Row],
     count: u32,
 ) -> Result<Option<Series<VersionHead>>, ReadFault>
     ensures { IfOk result (λ found. found
-        ≡ where_kept (are_counted 1 count rows.now) (map version_read rows.now)) }
+        ≡ where_kept (are_counted 1 count rows.now) (map (version_read older) rows.now)) }
 {
     if !are_counted(rows, 1, u64::from(count))? {
         return Ok(None);
     }
-    Ok(Some(Series::from_vec(versions_of_rows(alloc, rows)?)))
+    Ok(Some(Series::from_vec(versions_of_rows(alloc, older, rows)?)))
 }
 
 // The own rows of the versions of the record with the id, where they are so many and are numbered.
 fn version_heads_at<D: Readable>(
     alloc: Global,
     conn: &mut D,
+    older: Older,
     kept: i64,
     count: u32,
 ) -> Result<Option<Series<VersionHead>>, ReadFault>
-    ensures { ReadsOld (λ t found. found ≡ version_heads_tried t kept count)
+    ensures { ReadsBy older (λ t found. found ≡ version_heads_tried t kept count)
         (D.state conn.old) (D.state conn.new) result }
 {
-    let rows = version_rows(conn, kept)?;
-    versions_tried(alloc, &rows, count)
+    let rows = version_rows(conn, older, kept)?;
+    versions_tried(alloc, older, &rows, count)
 }
 
 // The version of the row, with its entries and signatures, where it was opened by one of the laboratory.
@@ -100,7 +110,7 @@ fn leaf_if(
     if head.lab == lab {
         Some(VersionLeaf {
             number: head.number,
-            format: 1,
+            format: head.format,
             opener: head.opener,
             opened: head.opened,
             reason: head.reason,
@@ -174,15 +184,16 @@ fn leaves_whole<D: Readable>(
 pub(crate) fn leaves_at<D: Readable>(
     alloc: Global,
     conn: &mut D,
+    older: Older,
     lab: i64,
     kept: i64,
     count: u32,
 ) -> Result<Option<Series<VersionLeaf>>, ReadFault>
-    ensures { ReadsOld (λ t found. leaves_in found
+    ensures { ReadsBy older (λ t found. leaves_in found
         ≡ where_kept (are_kept_versions t lab kept count) (leaves_of t kept))
         (D.state conn.old) (D.state conn.new) result }
 {
-    let heads = version_heads_at(alloc, conn, kept, count)?;
+    let heads = version_heads_at(alloc, conn, older, kept, count)?;
     match heads {
         Some(heads) => leaves_whole(alloc, conn, lab, heads.into_vec()),
         None => Ok(None),

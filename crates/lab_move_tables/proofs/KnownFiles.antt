@@ -4,6 +4,7 @@ use Rattle.sqlite.specs.Effect.{Database}
 use Rattle.lab_store_tables.specs.Family.{Name, Desk, id_of, rows, row_by}
 use Rattle.lab_store_tables.proofs.FamilyWords.{trees_by}
 use Rattle.lab_store_tables.proofs.Tests.{are_rising, keyed_from_test}
+use Rattle.lab_move_tables.specs.declared.older.Older.TheVariants.{Two}
 use Rattle.lab_move_tables.specs.OldSheets.{before}
 use Rattle.lab_move_tables.specs.OldSchema.{old_schema}
 use Rattle.lab_move_tables.specs.OldRows.{old_tables, IsOldFile}
@@ -19,11 +20,11 @@ ids_rise _ = refl
 abbrev exact : Database
 exact = record { schema = old_schema; trees = trees_by before lifted }
 
-exact_rows : (k : Name) → exact.trees (before k).sheet.tree ≡ map (row_by before k) (rows k (old_tables exact.trees))
+exact_rows : (k : Name) → exact.trees (before k).sheet.tree ≡ map (row_by before k) (rows k (old_tables Two exact.trees))
 exact_rows Desk = refl
 exact_rows _ = refl
 
-pub known_exact : IsOldFile exact
+pub known_exact : IsOldFile Two exact
 known_exact = record {
   schema = refl;
   stored = record { at = exact_rows };
@@ -36,7 +37,7 @@ known_exact = record {
 abbrev loose : Database
 loose = record { schema = peer_schema; trees = trees_by peer lifted }
 
-loose_rows : (k : Name) → loose.trees (peer k).sheet.tree ≡ map (row_by peer k) (rows k (old_tables loose.trees))
+loose_rows : (k : Name) → loose.trees (peer k).sheet.tree ≡ map (row_by peer k) (rows k (old_tables Two loose.trees))
 loose_rows Desk = refl
 loose_rows _ = refl
 

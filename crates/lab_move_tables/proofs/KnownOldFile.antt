@@ -7,6 +7,7 @@ use Rattle.sqlite_value.specs.declared.value.Value.TheVariants.{Null, Int, Text}
 use Rattle.lab_store_tables.specs.Rows.{FormRow, VersionRow, LabRow, Tables}
 use Rattle.lab_store_tables.proofs.FamilyWords.{trees_by}
 use Rattle.lab_store_tables.proofs.KnownFile.{file, desk, lab, session, entry, told, filled}
+use Rattle.lab_move_tables.specs.declared.older.Older.TheVariants.{Two}
 use Rattle.lab_move_tables.specs.OldSheets.{before}
 use Rattle.lab_move_tables.specs.OldRows.{old_tables, reason_in}
 use Rattle.lab_move_tables.specs.KeptLabs.{is_kept_lab}
@@ -30,7 +31,7 @@ abbrev pub trees : ℕ → List Row
 trees = trees_by before lifted
 
 -- what is read of these rows is what they were written of
-pub known_tables : old_tables trees ≡ lifted
+pub known_tables : old_tables Two trees ≡ lifted
 known_tables = refl
 
 -- NULL, or an empty text, is no reason

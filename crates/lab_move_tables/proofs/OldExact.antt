@@ -37,6 +37,7 @@ use Rattle.lab_store_read.proofs.Sorted.{and_true, by_one, only_answer, sorted_a
 use Rattle.lab_store_read.proofs.Lists.{alone_text, at_id, untied_in, untied_texts, joined}
 use Rattle.lab_store_tables.specs.Held.{AreRising}
 use Rattle.lab_store_laws.specs.ByRules.{IsByRules}
+use Rattle.lab_move_tables.specs.declared.older.Older.TheVariants.{Two}
 use Rattle.lab_move_tables.specs.OldRows.{old_tables, reason_in}
 use Rattle.lab_move_tables.proofs.OldRowWords.{old_person_row, old_form_row}
 use Rattle.lab_move_tables.specs.Owned.{own_versions, own_entries, own_signatures, lab_of}
@@ -72,19 +73,19 @@ Gives given = (id : ℤ) (others : Env) → eval given ((Int id ∷ []) ∷ othe
 
 pub record IsWrittenIn (schema : Schema) (write : Option (List ℕ) → Value) (db : Database) : Type 0 where
   pub has : db.schema ≡ schema
-  pub rising : AreRising (old_tables db.trees)
-  pub rules : IsByRules (old_tables db.trees)
-  pub labs : db.trees 1 ≡ map lab_row (old_tables db.trees).labs
-  pub persons : db.trees 3 ≡ map old_person_row (old_tables db.trees).persons
-  pub sessions : db.trees 5 ≡ map session_row (old_tables db.trees).sessions
-  pub forms : db.trees 8 ≡ map old_form_row (old_tables db.trees).forms
-  pub fields : db.trees 10 ≡ map field_row (old_tables db.trees).fields
-  pub choices : db.trees 13 ≡ map choice_row (old_tables db.trees).choices
-  pub records : db.trees 15 ≡ map record_row (old_tables db.trees).records
-  pub versions : db.trees 18 ≡ map (version_by write) (old_tables db.trees).versions
-  pub entries : db.trees 20 ≡ map (entry_by write) (old_tables db.trees).entries
-  pub signatures : db.trees 22 ≡ map (signature_by write) (old_tables db.trees).signatures
-  pub trail : db.trees 25 ≡ map trail_row (old_tables db.trees).trail
+  pub rising : AreRising (old_tables Two db.trees)
+  pub rules : IsByRules (old_tables Two db.trees)
+  pub labs : db.trees 1 ≡ map lab_row (old_tables Two db.trees).labs
+  pub persons : db.trees 3 ≡ map old_person_row (old_tables Two db.trees).persons
+  pub sessions : db.trees 5 ≡ map session_row (old_tables Two db.trees).sessions
+  pub forms : db.trees 8 ≡ map old_form_row (old_tables Two db.trees).forms
+  pub fields : db.trees 10 ≡ map field_row (old_tables Two db.trees).fields
+  pub choices : db.trees 13 ≡ map choice_row (old_tables Two db.trees).choices
+  pub records : db.trees 15 ≡ map record_row (old_tables Two db.trees).records
+  pub versions : db.trees 18 ≡ map (version_by write) (old_tables Two db.trees).versions
+  pub entries : db.trees 20 ≡ map (entry_by write) (old_tables Two db.trees).entries
+  pub signatures : db.trees 22 ≡ map (signature_by write) (old_tables Two db.trees).signatures
+  pub trail : db.trees 25 ≡ map trail_row (old_tables Two db.trees).trail
 
 -- what is shown answers the query that the text means
 pub answered : {schema : Schema} {sql : List ℕ} {query : Query} {names : List (List ℕ)} → MeansIn schema sql query names → (db : Database) → db.schema ≡ schema
@@ -103,11 +104,11 @@ equal_given given gives a id others = ap (λ v. is_true (binary (Compare Eq Bina
 
 -- ---- laboratories
 
-pub lab_read : {schema : Schema} {write : Option (List ℕ) → Value} (db : Database) → IsWrittenIn schema write db → LabMeans schema → (code : List ℕ) → Shows db lab_text (Text code ∷ []) (labs_shown (old_tables db.trees) code)
+pub lab_read : {schema : Schema} {write : Option (List ℕ) → Value} (db : Database) → IsWrittenIn schema write db → LabMeans schema → (code : List ℕ) → Shows db lab_text (Text code ∷ []) (labs_shown (old_tables Two db.trees) code)
 lab_read db file means code rows h =
     let params = Text code ∷ [] in
     let trees = overlay db.trees [] in
-    let t = old_tables db.trees in
+    let t = old_tables Two db.trees in
     let answer = answered means db file.has params rows h in
     only_answer lab_query trees params (last_table trees 1 lab_row lab_id t.labs file.labs (file.rising.at Labs) (at_end trees)) (has_code code) (λ x. and_true _ ∙ equal_texts x.code code) refl refl
     (alone_text (λ (x : LabRow). x.code) code t.labs (labs_apart t file.rules)) rows answer
@@ -121,10 +122,10 @@ all_pass (x ∷ xs) = ap (λ l. x ∷ l) (all_pass xs)
 untied_labs : (xs : List LabRow) → AreApart same_lab xs → IsAscending (λ a b. is_eq (by_lab a b) ≡ false) xs
 untied_labs xs apart = ascending_weaker (λ a b. same_lab a b ≡ false) (λ a b. is_eq (by_lab a b) ≡ false) (λ a b h. is_eq-slice_cmp a.code b.code ∙ h) xs apart
 
-pub codes_read : {schema : Schema} {write : Option (List ℕ) → Value} (db : Database) → IsWrittenIn schema write db → CodesMeans schema → Shows db codes_text [] (codes_shown (old_tables db.trees))
+pub codes_read : {schema : Schema} {write : Option (List ℕ) → Value} (db : Database) → IsWrittenIn schema write db → CodesMeans schema → Shows db codes_text [] (codes_shown (old_tables Two db.trees))
 codes_read db file means rows h =
     let trees = overlay db.trees [] in
-    let t = old_tables db.trees in
+    let t = old_tables Two db.trees in
     let answer = answered means db file.has [] rows h in
     let all = all_pass t.labs in
     own_rows trees 1 lab_row lab_id t.labs file.labs (file.rising.at Labs) (λ x. true) by_lab
@@ -170,32 +171,32 @@ module _ {X : Type 0} (db : Trees) (persons : List PersonRow) (tree : ℕ) (enco
 
 -- ---- persons and sessions
 
-pub person_read : {schema : Schema} {write : Option (List ℕ) → Value} {given : Term} (db : Database) → IsWrittenIn schema write db → PersonMeans schema given → Gives given → (lab : ℤ) → Shows db person_text (Int lab ∷ []) (persons_shown (old_tables db.trees) lab)
+pub person_read : {schema : Schema} {write : Option (List ℕ) → Value} {given : Term} (db : Database) → IsWrittenIn schema write db → PersonMeans schema given → Gives given → (lab : ℤ) → Shows db (person_text Two) (Int lab ∷ []) (persons_shown Two (old_tables Two db.trees) lab)
 person_read {given = given} db file means gives lab rows h =
     let params = Int lab ∷ [] in
     let trees = overlay db.trees [] in
-    let t = old_tables db.trees in
+    let t = old_tables Two db.trees in
     let answer = answered means db file.has params rows h in
     own_rows trees 3 old_person_row person_id t.persons file.persons (file.rising.at Persons) (λ x. int_eq x.lab lab) (λ one other. slice_cmp nat_cmp one.code other.code)
     (untied_texts (λ (x : PersonRow). x.lab) (λ (x : PersonRow). x.code) lab t.persons (persons_apart t file.rules))
-    (is_given given 2 ∷ []) person_columns 3 params person_shown (λ x. Text x.code)
+    (is_given given 2 ∷ []) person_columns 3 params (person_shown Two) (λ x. Text x.code)
     (λ x. and_true _ ∙ equal_given given gives x.lab lab _) (λ x. refl) (λ x. refl) (λ a b. by_text a.code b.code) rows answer
 
-pub owner_read : {schema : Schema} {write : Option (List ℕ) → Value} (db : Database) → IsWrittenIn schema write db → OwnerMeans schema → (id : ℤ) → Shows db owner_text (Int id ∷ []) (owners_shown (old_tables db.trees) id)
+pub owner_read : {schema : Schema} {write : Option (List ℕ) → Value} (db : Database) → IsWrittenIn schema write db → OwnerMeans schema → (id : ℤ) → Shows db owner_text (Int id ∷ []) (owners_shown (old_tables Two db.trees) id)
 owner_read db file means id rows h =
     let params = Int id ∷ [] in
     let trees = overlay db.trees [] in
-    let t = old_tables db.trees in
+    let t = old_tables Two db.trees in
     let mine = λ (x : PersonRow). int_eq x.id id in
     let answer = answered means db file.has params rows h in
     only_answer owner_query trees params (last_table trees 3 old_person_row person_id t.persons file.persons (file.rising.at Persons) (at_end trees)) mine
     (λ x. and_true _ ∙ equal_ints x.id id) refl refl (at_most_one person_id id mine (λ x e. e) t.persons (file.rising.at Persons)) rows answer
 
-pub session_read : {schema : Schema} {write : Option (List ℕ) → Value} {given : Term} (db : Database) → IsWrittenIn schema write db → SessionMeans schema given → Gives given → (parent : ℤ) → Shows db session_text (Int parent ∷ []) (sessions_shown (old_tables db.trees) parent)
+pub session_read : {schema : Schema} {write : Option (List ℕ) → Value} {given : Term} (db : Database) → IsWrittenIn schema write db → SessionMeans schema given → Gives given → (parent : ℤ) → Shows db session_text (Int parent ∷ []) (sessions_shown (old_tables Two db.trees) parent)
 session_read {given = given} db file means gives parent rows h =
     let params = Int parent ∷ [] in
     let trees = overlay db.trees [] in
-    let t = old_tables db.trees in
+    let t = old_tables Two db.trees in
     let answer = answered means db file.has params rows h in
     children trees t.persons 5 session_row session_id t.sessions file.sessions (file.rising.at Sessions) file.persons (file.rising.at Persons) (λ x. x.lab) (λ x. x.number) (λ x. x.person)
     (sessions_apart t file.rules) (workers t file.rules) (child_tests given 3) session_columns 4 parent params
@@ -204,33 +205,33 @@ session_read {given = given} db file means gives parent rows h =
 
 -- ---- forms
 
-pub form_read : {schema : Schema} {write : Option (List ℕ) → Value} {given : Term} (db : Database) → IsWrittenIn schema write db → FormMeans schema given → Gives given → (lab : ℤ) → Shows db form_text (Int lab ∷ []) (forms_shown (old_tables db.trees) lab)
+pub form_read : {schema : Schema} {write : Option (List ℕ) → Value} {given : Term} (db : Database) → IsWrittenIn schema write db → FormMeans schema given → Gives given → (lab : ℤ) → Shows db (form_text Two) (Int lab ∷ []) (forms_shown Two (old_tables Two db.trees) lab)
 form_read {given = given} db file means gives lab rows h =
     let params = Int lab ∷ [] in
     let trees = overlay db.trees [] in
-    let t = old_tables db.trees in
+    let t = old_tables Two db.trees in
     let mine = λ (x : FormRow). int_eq x.lab lab in
     let answer = answered means db file.has params rows h in
     sorted_answer (form_query given) trees params (last_table trees 8 old_form_row form_id t.forms file.forms (file.rising.at Forms) (at_end trees)) mine
     (λ x. and_true _ ∙ equal_given given gives x.lab lab _) refl refl by_form (λ a b. by_text_number a.code b.code a.version b.version)
     (untied_forms (λ (x : FormRow). x.lab) (λ (x : FormRow). x.code) (λ (x : FormRow). x.version) lab t.forms (forms_apart t file.rules)) rows answer
 
-pub field_read : {schema : Schema} {write : Option (List ℕ) → Value} {given : Term} (db : Database) → IsWrittenIn schema write db → FieldMeans schema given → Gives given → (parent : ℤ) → Shows db field_text (Int parent ∷ []) (fields_shown (old_tables db.trees) parent)
+pub field_read : {schema : Schema} {write : Option (List ℕ) → Value} {given : Term} (db : Database) → IsWrittenIn schema write db → FieldMeans schema given → Gives given → (parent : ℤ) → Shows db field_text (Int parent ∷ []) (fields_shown (old_tables Two db.trees) parent)
 field_read {given = given} db file means gives parent rows h =
     let params = Int parent ∷ [] in
     let trees = overlay db.trees [] in
-    let t = old_tables db.trees in
+    let t = old_tables Two db.trees in
     let answer = answered means db file.has params rows h in
     own_rows trees 10 field_row field_id t.fields file.fields (file.rising.at Fields) (λ x. int_eq x.form parent) (λ one other. nat_cmp one.place other.place)
     (untied_in (λ (x : FieldRow). x.form) (λ (x : FieldRow). x.place) parent t.fields (fields_apart t file.rules))
     (is_given given 2 ∷ []) field_columns 3 params field_shown (λ x. Int (pos x.place))
     (λ x. and_true _ ∙ equal_given given gives x.form parent _) (λ x. refl) (λ x. refl) (λ a b. by_one a.place b.place) rows answer
 
-pub choice_read : {schema : Schema} {write : Option (List ℕ) → Value} {given : Term} (db : Database) → IsWrittenIn schema write db → ChoiceMeans schema given → Gives given → (parent : ℤ) → Shows db choice_text (Int parent ∷ []) (choices_shown (old_tables db.trees) parent)
+pub choice_read : {schema : Schema} {write : Option (List ℕ) → Value} {given : Term} (db : Database) → IsWrittenIn schema write db → ChoiceMeans schema given → Gives given → (parent : ℤ) → Shows db choice_text (Int parent ∷ []) (choices_shown (old_tables Two db.trees) parent)
 choice_read {given = given} db file means gives parent rows h =
     let params = Int parent ∷ [] in
     let trees = overlay db.trees [] in
-    let t = old_tables db.trees in
+    let t = old_tables Two db.trees in
     let answer = answered means db file.has params rows h in
     own_rows trees 13 choice_row choice_id t.choices file.choices (file.rising.at Choices) (λ x. int_eq x.field parent) (λ one other. nat_cmp one.place other.place)
     (untied_in (λ (x : ChoiceRow). x.field) (λ (x : ChoiceRow). x.place) parent t.choices (choices_apart t file.rules))
@@ -239,22 +240,22 @@ choice_read {given = given} db file means gives parent rows h =
 
 -- ---- records
 
-pub filed_read : {schema : Schema} {write : Option (List ℕ) → Value} {given : Term} (db : Database) → IsWrittenIn schema write db → FiledMeans schema given → Gives given → (parent : ℤ) → Shows db filed_text (Int parent ∷ []) (records_shown (old_tables db.trees) parent)
+pub filed_read : {schema : Schema} {write : Option (List ℕ) → Value} {given : Term} (db : Database) → IsWrittenIn schema write db → FiledMeans schema given → Gives given → (parent : ℤ) → Shows db filed_text (Int parent ∷ []) (records_shown (old_tables Two db.trees) parent)
 filed_read {given = given} db file means gives parent rows h =
     let params = Int parent ∷ [] in
     let trees = overlay db.trees [] in
-    let t = old_tables db.trees in
+    let t = old_tables Two db.trees in
     let answer = answered means db file.has params rows h in
     own_rows trees 15 record_row record_id t.records file.records (file.rising.at Records) (λ x. int_eq x.lab parent) (λ one other. nat_cmp one.number other.number)
     (untied_in (λ (x : RecordRow). x.lab) (λ (x : RecordRow). x.number) parent t.records (records_apart t file.rules))
     (is_given given 2 ∷ []) filed_columns 3 params record_shown (λ x. Int (pos x.number))
     (λ x. and_true _ ∙ equal_given given gives x.lab parent _) (λ x. refl) (λ x. refl) (λ a b. by_one a.number b.number) rows answer
 
-pub version_read : {schema : Schema} {write : Option (List ℕ) → Value} {given : Term} (db : Database) → IsWrittenIn schema write db → VersionMeans schema given → Gives given → (parent : ℤ) → Writes write → ShowsSaid db version_text (Int parent ∷ []) 4 (versions_shown (old_tables db.trees) parent)
+pub version_read : {schema : Schema} {write : Option (List ℕ) → Value} {given : Term} (db : Database) → IsWrittenIn schema write db → VersionMeans schema given → Gives given → (parent : ℤ) → Writes write → ShowsSaid db (version_text Two) (Int parent ∷ []) 4 (versions_shown Two (old_tables Two db.trees) parent)
 version_read {write = write} {given = given} db file means gives parent writes rows h =
     let params = Int parent ∷ [] in
     let trees = overlay db.trees [] in
-    let t = old_tables db.trees in
+    let t = old_tables Two db.trees in
     let answer = answered means db file.has params rows h in
     let own = own_versions t parent in
     let show = λ (x : VersionRow) (code : List ℕ) (lab : ℤ). let row : Row = Int x.id ∷ number x.number ∷ Text code ∷ number x.opened ∷ write x.reason ∷ Int lab ∷ [] in row in
@@ -262,14 +263,14 @@ version_read {write = write} {given = given} db file means gives parent writes r
     (versions_apart t file.rules) (openers t file.rules) (child_tests given 4) version_columns 3 parent params show
     (λ x p. ap₂ ◌&&◌ (equal_given given gives x.kept parent _) (and_true _ ∙ equal_ints p.id x.opener)) (λ x p. refl) (λ x. refl) rows answer in
     ap (map (said_at 4)) given ∙ map-map (said_at 4) (λ x. show x (code_of t x.opener) (lab_of t x.opener)) own
-    ∙ all_same IsOldVersion (λ x. said_at 4 (show x (code_of t x.opener) (lab_of t x.opener))) (version_shown t)
-    (λ x old. ap (λ it. Int x.id ∷ number x.number ∷ Text (code_of t x.opener) ∷ number x.opened ∷ it ∷ Int (lab_of t x.opener) ∷ []) (writes x.reason old.reason)) own (old_versions t (db.trees, refl) parent)
+    ∙ all_same (IsOldVersion Two) (λ x. said_at 4 (show x (code_of t x.opener) (lab_of t x.opener))) (version_shown Two t)
+    (λ x old. ap (λ it. Int x.id ∷ number x.number ∷ Text (code_of t x.opener) ∷ number x.opened ∷ it ∷ Int (lab_of t x.opener) ∷ []) (writes x.reason old.reason)) own (old_versions Two t (db.trees, refl) parent)
 
-pub entry_read : {schema : Schema} {write : Option (List ℕ) → Value} {given : Term} (db : Database) → IsWrittenIn schema write db → EntryMeans schema given → Gives given → (parent : ℤ) → Writes write → ShowsSaid db entry_text (Int parent ∷ []) 5 (entries_shown (old_tables db.trees) parent)
+pub entry_read : {schema : Schema} {write : Option (List ℕ) → Value} {given : Term} (db : Database) → IsWrittenIn schema write db → EntryMeans schema given → Gives given → (parent : ℤ) → Writes write → ShowsSaid db entry_text (Int parent ∷ []) 5 (entries_shown (old_tables Two db.trees) parent)
 entry_read {write = write} {given = given} db file means gives parent writes rows h =
     let params = Int parent ∷ [] in
     let trees = overlay db.trees [] in
-    let t = old_tables db.trees in
+    let t = old_tables Two db.trees in
     let answer = answered means db file.has params rows h in
     let own = own_entries t parent in
     let show = λ (x : EntryRow) (code : List ℕ) (lab : ℤ). let row : Row = Text x.key ∷ Text x.value ∷ Text x.unit ∷ Text code ∷ number x.moment ∷ write x.reason ∷ number x.place ∷ Int lab ∷ [] in row in
@@ -278,13 +279,13 @@ entry_read {write = write} {given = given} db file means gives parent writes row
     (λ x p. ap₂ ◌&&◌ (equal_given given gives x.version parent _) (and_true _ ∙ equal_ints p.id x.person)) (λ x p. refl) (λ x. refl) rows answer in
     ap (map (said_at 5)) given ∙ map-map (said_at 5) (λ x. show x (code_of t x.person) (lab_of t x.person)) own
     ∙ all_same IsOldEntry (λ x. said_at 5 (show x (code_of t x.person) (lab_of t x.person))) (entry_shown t)
-    (λ x old. ap (λ it. Text x.key ∷ Text x.value ∷ Text x.unit ∷ Text (code_of t x.person) ∷ number x.moment ∷ it ∷ number x.place ∷ Int (lab_of t x.person) ∷ []) (writes x.reason old)) own (old_entries t (db.trees, refl) parent)
+    (λ x old. ap (λ it. Text x.key ∷ Text x.value ∷ Text x.unit ∷ Text (code_of t x.person) ∷ number x.moment ∷ it ∷ number x.place ∷ Int (lab_of t x.person) ∷ []) (writes x.reason old)) own (old_entries Two t (db.trees, refl) parent)
 
-pub signature_read : {schema : Schema} {write : Option (List ℕ) → Value} {given : Term} (db : Database) → IsWrittenIn schema write db → SignatureMeans schema given → Gives given → (parent : ℤ) → Writes write → ShowsSaid db signature_text (Int parent ∷ []) 3 (signatures_shown (old_tables db.trees) parent)
+pub signature_read : {schema : Schema} {write : Option (List ℕ) → Value} {given : Term} (db : Database) → IsWrittenIn schema write db → SignatureMeans schema given → Gives given → (parent : ℤ) → Writes write → ShowsSaid db signature_text (Int parent ∷ []) 3 (signatures_shown (old_tables Two db.trees) parent)
 signature_read {write = write} {given = given} db file means gives parent writes rows h =
     let params = Int parent ∷ [] in
     let trees = overlay db.trees [] in
-    let t = old_tables db.trees in
+    let t = old_tables Two db.trees in
     let answer = answered means db file.has params rows h in
     let own = own_signatures t parent in
     let show = λ (x : SignatureRow) (code : List ℕ) (lab : ℤ). let row : Row = Text code ∷ Text x.name ∷ Text x.meaning ∷ write x.reason ∷ number x.moment ∷ Blob x.digest ∷ Blob x.seal ∷ number x.place ∷ Int lab ∷ [] in row in
@@ -293,24 +294,24 @@ signature_read {write = write} {given = given} db file means gives parent writes
     (λ x p. ap₂ ◌&&◌ (equal_given given gives x.version parent _) (and_true _ ∙ equal_ints p.id x.person)) (λ x p. refl) (λ x. refl) rows answer in
     ap (map (said_at 3)) given ∙ map-map (said_at 3) (λ x. show x (code_of t x.person) (lab_of t x.person)) own
     ∙ all_same IsOldSignature (λ x. said_at 3 (show x (code_of t x.person) (lab_of t x.person))) (signature_shown t)
-    (λ x old. ap (λ it. Text (code_of t x.person) ∷ Text x.name ∷ Text x.meaning ∷ it ∷ number x.moment ∷ Blob x.digest ∷ Blob x.seal ∷ number x.place ∷ Int (lab_of t x.person) ∷ []) (writes x.reason old)) own (old_signatures t (db.trees, refl) parent)
+    (λ x old. ap (λ it. Text (code_of t x.person) ∷ Text x.name ∷ Text x.meaning ∷ it ∷ number x.moment ∷ Blob x.digest ∷ Blob x.seal ∷ number x.place ∷ Int (lab_of t x.person) ∷ []) (writes x.reason old)) own (old_signatures Two t (db.trees, refl) parent)
 
-pub entry_places_read : {schema : Schema} {write : Option (List ℕ) → Value} {given : Term} (db : Database) → IsWrittenIn schema write db → EntryPlaceMeans schema given → Gives given → (parent : ℤ) → Shows db entry_place_text (Int parent ∷ []) (entry_places_shown (old_tables db.trees) parent)
+pub entry_places_read : {schema : Schema} {write : Option (List ℕ) → Value} {given : Term} (db : Database) → IsWrittenIn schema write db → EntryPlaceMeans schema given → Gives given → (parent : ℤ) → Shows db entry_place_text (Int parent ∷ []) (entry_places_shown (old_tables Two db.trees) parent)
 entry_places_read {write = write} {given = given} db file means gives parent rows h =
     let params = Int parent ∷ [] in
     let trees = overlay db.trees [] in
-    let t = old_tables db.trees in
+    let t = old_tables Two db.trees in
     let answer = answered means db file.has params rows h in
     own_rows trees 20 (entry_by write) entry_id t.entries file.entries (file.rising.at Entries) (λ x. int_eq x.version parent) (λ one other. nat_cmp one.place other.place)
     (untied_in (λ (x : EntryRow). x.version) (λ (x : EntryRow). x.place) parent t.entries (entries_apart t file.rules))
     (is_given given 2 ∷ []) place_columns 3 params entry_place_shown (λ x. Int (pos x.place))
     (λ x. and_true _ ∙ equal_given given gives x.version parent _) (λ x. refl) (λ x. refl) (λ a b. by_one a.place b.place) rows answer
 
-pub signature_places_read : {schema : Schema} {write : Option (List ℕ) → Value} {given : Term} (db : Database) → IsWrittenIn schema write db → SignaturePlaceMeans schema given → Gives given → (parent : ℤ) → Shows db signature_place_text (Int parent ∷ []) (signature_places_shown (old_tables db.trees) parent)
+pub signature_places_read : {schema : Schema} {write : Option (List ℕ) → Value} {given : Term} (db : Database) → IsWrittenIn schema write db → SignaturePlaceMeans schema given → Gives given → (parent : ℤ) → Shows db signature_place_text (Int parent ∷ []) (signature_places_shown (old_tables Two db.trees) parent)
 signature_places_read {write = write} {given = given} db file means gives parent rows h =
     let params = Int parent ∷ [] in
     let trees = overlay db.trees [] in
-    let t = old_tables db.trees in
+    let t = old_tables Two db.trees in
     let answer = answered means db file.has params rows h in
     own_rows trees 22 (signature_by write) signature_id t.signatures file.signatures (file.rising.at Signatures) (λ x. int_eq x.version parent) (λ one other. nat_cmp one.place other.place)
     (untied_in (λ (x : SignatureRow). x.version) (λ (x : SignatureRow). x.place) parent t.signatures (signatures_apart t file.rules))
@@ -319,11 +320,11 @@ signature_places_read {write = write} {given = given} db file means gives parent
 
 -- ---- the trail
 
-pub told_read : {schema : Schema} {write : Option (List ℕ) → Value} {given : Term} (db : Database) → IsWrittenIn schema write db → ToldMeans schema given → Gives given → (parent : ℤ) → Shows db told_text (Int parent ∷ []) (trail_shown (old_tables db.trees) parent)
+pub told_read : {schema : Schema} {write : Option (List ℕ) → Value} {given : Term} (db : Database) → IsWrittenIn schema write db → ToldMeans schema given → Gives given → (parent : ℤ) → Shows db told_text (Int parent ∷ []) (trail_shown (old_tables Two db.trees) parent)
 told_read {given = given} db file means gives parent rows h =
     let params = Int parent ∷ [] in
     let trees = overlay db.trees [] in
-    let t = old_tables db.trees in
+    let t = old_tables Two db.trees in
     let answer = answered means db file.has params rows h in
     own_rows trees 25 trail_row trail_id t.trail file.trail (file.rising.at Trail) (λ x. int_eq x.lab parent) (λ one other. nat_cmp one.number other.number)
     (untied_in (λ (x : TrailRow). x.lab) (λ (x : TrailRow). x.number) parent t.trail (told_apart t file.rules))

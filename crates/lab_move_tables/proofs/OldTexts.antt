@@ -14,6 +14,8 @@ use Rattle.sqlite_sql.specs.declared.ops.CompareOp.TheVariants.{Eq}
 use Rattle.lab_store_read.proofs.Queries.{IsRead}
 use Rattle.lab_store_read.proofs.Texts.{is_param, own_query, children_query, record_query}
 use Rattle.sqlite_schema.specs.declared.schema.Schema.{Schema}
+use Rattle.lab_move_tables.specs.declared.older.Older.{Older}
+use Rattle.lab_move_tables.specs.declared.older.Older.TheVariants.{Two}
 use Rattle.lab_move_tables.specs.OldSchema.{old_schema}
 use Rattle.lab_move_tables.specs.Questions.{codes_text, lab_text, person_text, owner_text, session_text, form_text, field_text, choice_text, filed_text, version_text, entry_text, entry_place_text, signature_text, signature_place_text, told_text}
 
@@ -74,7 +76,7 @@ abbrev pub person_columns : List Term
 person_columns = col 1 3 ∷ col 1 4 ∷ col 1 5 ∷ col 1 6 ∷ col 1 7 ∷ col 1 8 ∷ col 1 9 ∷ col 1 10 ∷ col 1 11 ∷ col 1 12 ∷ col 1 13 ∷ col 1 14 ∷ col 1 15 ∷ col 1 16 ∷ col 1 17 ∷ col 1 18 ∷ col 1 19 ∷ []
 
 abbrev pub PersonMeans : Schema → Term → Type 0
-PersonMeans schema given = MeansIn schema person_text (own_query 3 (is_given given 2 ∷ []) person_columns 3) person_names
+PersonMeans schema given = MeansIn schema (person_text Two) (own_query 3 (is_given given 2 ∷ []) person_columns 3) person_names
 
 pub person_means : PersonMeans old_schema (col 0 0)
 unfolding understood everything
@@ -130,7 +132,7 @@ form_query given = record record_query {
 }
 
 abbrev pub FormMeans : Schema → Term → Type 0
-FormMeans schema given = MeansIn schema form_text (form_query given) form_names
+FormMeans schema given = MeansIn schema (form_text Two) (form_query given) form_names
 
 pub form_means : FormMeans old_schema (col 0 0)
 unfolding understood everything
@@ -190,7 +192,7 @@ abbrev pub version_columns : List Term
 version_columns = col 1 0 ∷ col 1 3 ∷ col 2 3 ∷ col 1 5 ∷ col 1 6 ∷ col 2 2 ∷ []
 
 abbrev pub VersionMeans : Schema → Term → Type 0
-VersionMeans schema given = MeansIn schema version_text (children_query 18 (child_tests given 4) version_columns 3) version_names
+VersionMeans schema given = MeansIn schema (version_text Two) (children_query 18 (child_tests given 4) version_columns 3) version_names
 
 pub version_means : VersionMeans old_schema (col 0 0)
 unfolding understood everything
@@ -300,3 +302,14 @@ all_means = record {
   signature = signature_means;
   told = told_means;
 }
+
+-- ---- of each older schema
+
+pub person_asks : (older : Older) → IsRead (first (person_text older))
+person_asks Two = person_means.read
+
+pub form_asks : (older : Older) → IsRead (first (form_text older))
+form_asks Two = form_means.read
+
+pub version_asks : (older : Older) → IsRead (first (version_text older))
+version_asks Two = version_means.read

@@ -12,6 +12,7 @@ use Rattle.sqlite.specs.Listing.{understood}
 use Rattle.lab_store_tables.specs.Sheets.{table_of}
 use Rattle.lab_store_tables.specs.Family.{Name, Desk, Labs, Persons, Sessions, Forms, Fields, Choices, Records, Versions, Entries, Signatures, Trail}
 use Rattle.lab_store_tables.proofs.FamilyWords.{trees_by}
+use Rattle.lab_move_tables.specs.declared.older.Older.TheVariants.{Two}
 use Rattle.lab_move_tables.specs.OldRows.{old_tables}
 use Rattle.lab_move_tables.specs.PeerFiles.{peer, loose, peer_schema}
 use Rattle.lab_move_tables.specs.Showing.{said, said_at}
@@ -85,7 +86,7 @@ schema_is = refl
 abbrev trees : ℕ → List Row
 trees = trees_by peer lifted
 
-pub known_tables : old_tables trees ≡ lifted
+pub known_tables : old_tables Two trees ≡ lifted
 known_tables = refl
 
 -- an empty text is no reason

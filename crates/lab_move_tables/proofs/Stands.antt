@@ -8,15 +8,17 @@ use Rattle.sqlite_sql.specs.Ops.{unary}
 use Rattle.sqlite_sql.specs.Term.{Term}
 use Rattle.lab_store_tables.specs.Rows.{optional}
 use Rattle.lab_store_tables.specs.Family.{Labs, Persons, Sessions, Forms, Fields, Choices, Records, Versions, Entries, Signatures, Trail}
+use Rattle.lab_move_tables.specs.declared.older.Older.{Older}
+use Rattle.lab_move_tables.specs.declared.older.Older.TheVariants.{Two}
 use Rattle.lab_move_tables.specs.OldSchema.{old_schema}
 use Rattle.lab_move_tables.specs.OldRows.{IsOldFile, old_tables}
 use Rattle.lab_move_tables.specs.PeerFiles.{IsPeerFile, peer_schema, words}
-use Rattle.lab_move_tables.specs.Standing.{StandsFor}
+use Rattle.lab_move_tables.specs.Standing.{StandsBy}
 use Rattle.lab_move_tables.proofs.OldTexts.{AllMeans, all_means}
 use Rattle.lab_move_tables.proofs.PeerTexts.{as_number, peer_means}
 use Rattle.lab_move_tables.proofs.OldExact.{IsWrittenIn, Gives, Writes, codes_read, lab_read, person_read, owner_read, session_read, form_read, field_read, choice_read, filed_read, version_read, entry_read, entry_places_read, signature_read, signature_places_read, told_read}
 
-stands : {schema : Schema} {write : Option (List ℕ) → Value} {given : Term} (db : Database) → IsWrittenIn schema write db → AllMeans schema given → Gives given → Writes write → StandsFor db (old_tables db.trees)
+stands : {schema : Schema} {write : Option (List ℕ) → Value} {given : Term} (db : Database) → IsWrittenIn schema write db → AllMeans schema given → Gives given → Writes write → StandsBy Two db (old_tables Two db.trees)
 stands db file means gives writes = record {
   lifted = (db.trees, refl);
   rising = file.rising;
@@ -44,7 +46,7 @@ nulls None h = refl
 nulls (Some []) h = absurd cc
 nulls (Some (first ∷ others)) h = refl
 
-exact_written : (db : Database) → IsOldFile db → IsWrittenIn old_schema (optional Text) db
+exact_written : (db : Database) → IsOldFile Two db → IsWrittenIn old_schema (optional Text) db
 exact_written db file = record {
   has = file.schema;
   rising = file.rising;
@@ -62,8 +64,8 @@ exact_written db file = record {
   trail = file.stored.at Trail;
 }
 
-pub exact_stands : (db : Database) → IsOldFile db → StandsFor db (old_tables db.trees)
-exact_stands db file = stands db (exact_written db file) all_means (λ id others. refl) nulls
+pub exact_stands : (older : Older) (db : Database) → IsOldFile older db → StandsBy older db (old_tables older db.trees)
+exact_stands Two db file = stands db (exact_written db file) all_means (λ id others. refl) nulls
 
 -- ---- with an empty text
 
@@ -97,5 +99,5 @@ peer_written db file = record {
   trail = file.stored.at Trail;
 }
 
-pub peer_stands : (db : Database) → IsPeerFile db → StandsFor db (old_tables db.trees)
+pub peer_stands : (db : Database) → IsPeerFile db → StandsBy Two db (old_tables Two db.trees)
 peer_stands db file = stands db (peer_written db file) peer_means numbers empties

@@ -1,5 +1,6 @@
 pub mod OldSheets
 pub mod OldSchema
+pub mod Olders
 pub mod OldRows
 pub mod PeerFiles
 pub mod Owned

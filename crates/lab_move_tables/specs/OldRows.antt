@@ -1,5 +1,5 @@
--- The rows of a file of schema 2, and what the file holds: the tables of today's schema for which its rows
--- stand. So what a laboratory of such a file means is the `meaning` of these tables.
+-- The rows of a file of an older schema, and what the file holds: the tables of today's schema for which
+-- its rows stand. So what a laboratory of such a file means is the `meaning` of these tables.
 use Rattle.std.specs.Prelude.{◌≡◌, ℕ, List, Option}
 use Rattle.sqlite_value.specs.declared.value.Value.{Value}
 use Rattle.sqlite_value.specs.Order.{bytes}
@@ -10,25 +10,26 @@ use Rattle.sqlite_schema.specs.declared.schema.Schema.{Schema}
 use Rattle.lab_store_tables.specs.Family.{Layout, tables_by}
 use Rattle.lab_store_tables.specs.Held.{AreRising, AreStoredBy}
 use Rattle.lab_store_laws.specs.ByRules.{IsByRules}
-use Rattle.lab_move_tables.specs.OldSchema.{old_schema}
-use Rattle.lab_move_tables.specs.OldSheets.{before, said_in}
+use Rattle.lab_move_tables.specs.OldSheets.{said_in}
+use Rattle.lab_move_tables.specs.Olders.{layout_of, schema_of}
+use Rattle.lab_move_tables.specs.declared.older.Older.{Older}
 pub use Rattle.lab_move_tables.specs.OldSheets.{old_rounds, beside}
 
 abbrev pub reason_in : Value → Option (List ℕ)
 reason_in value = said_in (optional_in bytes value)
 
--- the tables of today's schema for which a file of schema 2 stands
-abbrev pub old_tables : Trees → Tables
-old_tables = tables_by before
+-- the tables of today's schema for which a file of an older one stands
+abbrev pub old_tables : Older → Trees → Tables
+old_tables older = tables_by (layout_of older)
 
--- a file of schema 2 whose schema is this, which keeps each table so, whose rows are of their types,
--- and which keeps its own rules
-pub record IsFileOf (text : Schema) (layout : Layout) (db : Database) : Type 0 where
+-- a file of an older schema whose schema is this, which keeps each table so, whose rows are of their
+-- types, and which keeps its own rules
+pub record IsFileOf (older : Older) (text : Schema) (layout : Layout) (db : Database) : Type 0 where
   pub schema : db.schema ≡ text
-  pub stored : AreStoredBy layout db.trees (old_tables db.trees)
-  pub rising : AreRising (old_tables db.trees)
-  pub rules : IsByRules (old_tables db.trees)
+  pub stored : AreStoredBy layout db.trees (old_tables older db.trees)
+  pub rising : AreRising (old_tables older db.trees)
+  pub rules : IsByRules (old_tables older db.trees)
 
--- one whose tables are, text for text, those of `OldSchema`
-abbrev pub IsOldFile : Database → Type 0
-IsOldFile = IsFileOf old_schema before
+-- one whose tables are, text for text, those of the older schema
+abbrev pub IsOldFile : Older → Database → Type 0
+IsOldFile older = IsFileOf older (schema_of older) (layout_of older)

@@ -14,6 +14,7 @@ use Rattle.lab_store_tables.specs.Family.{Name, Desk, Labs, Persons, Sessions, F
 use Rattle.lab_move_tables.specs.OldSchema.{old_schema}
 use Rattle.lab_move_tables.specs.OldSheets.{before, said_in}
 use Rattle.lab_move_tables.specs.OldRows.{IsFileOf}
+use Rattle.lab_move_tables.specs.declared.older.Older.TheVariants.{Two}
 
 -- ---- the tables with a reason
 
@@ -147,4 +148,4 @@ peer_schema = record old_schema {
 
 -- such a file, whose rows are of their types, and which keeps its own rules
 abbrev pub IsPeerFile : Database → Type 0
-IsPeerFile = IsFileOf peer_schema peer
+IsPeerFile = IsFileOf Two peer_schema peer

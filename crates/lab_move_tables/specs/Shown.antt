@@ -1,4 +1,5 @@
 -- The rows that each question is to show of the tables, in its order (ISO/IEC 9075-2, ORDER BY).
+-- What an older schema didn't know, its question doesn't show.
 use Rattle.std.specs.Prelude.{ℕ, ℤ, List, [], ◌∷◌, map, filter}
 use Rattle.std.specs.declared.cmp.Ordering.{Ordering}
 use Rattle.std.specs.Ordering.{int_eq, nat_cmp}
@@ -8,6 +9,8 @@ use Rattle.sqlite_value.specs.declared.value.Value.TheVariants.{Int, Text, Blob}
 use Rattle.sqlite_value.specs.Order.{Row}
 use Rattle.lab_store_tables.specs.Rows.{LabRow, PersonRow, SessionRow, FormRow, FieldRow, ChoiceRow, RecordRow, VersionRow, EntryRow, SignatureRow, TrailRow, Tables, number, flag, optional}
 use Rattle.lab_store_tables.specs.Meaning.{code_of, has_code}
+use Rattle.lab_move_tables.specs.declared.older.Older.{Older}
+use Rattle.lab_move_tables.specs.declared.older.Older.TheVariants.{Two}
 use Rattle.lab_move_tables.specs.Owned.{own_persons, own_sessions, own_forms, own_fields, own_choices, own_records, own_versions, own_entries, own_signatures, own_trail, lab_of}
 
 -- ---- laboratories
@@ -32,8 +35,8 @@ codes_shown t = map code_shown (sort_by by_lab t.labs)
 
 -- ---- persons and sessions
 
-abbrev pub person_shown : PersonRow → Row
-person_shown one =
+abbrev pub person_shown : Older → PersonRow → Row
+person_shown Two one =
     Text one.code ∷ Text one.name ∷ number one.roles ∷ flag one.retired ∷ number one.failures
     ∷ optional number one.locked ∷ number one.password.kind ∷ optional Blob one.password.salt
     ∷ optional number one.password.rounds ∷ optional Blob one.password.bytes
@@ -41,8 +44,8 @@ person_shown one =
     ∷ optional number one.password.changed ∷ optional Int one.ask.asker
     ∷ optional number one.ask.asked ∷ optional Blob one.ask.salt ∷ optional Blob one.ask.bytes ∷ []
 
-abbrev pub persons_shown : Tables → ℤ → List Row
-persons_shown t lab = map person_shown (own_persons t lab)
+abbrev pub persons_shown : Older → Tables → ℤ → List Row
+persons_shown older t lab = map (person_shown older) (own_persons t lab)
 
 -- whose code and laboratory an arrow leads to
 abbrev pub owner_shown : PersonRow → Row
@@ -61,11 +64,11 @@ sessions_shown t lab = map (session_shown t) (own_sessions t lab)
 
 -- ---- forms
 
-abbrev pub form_shown : FormRow → Row
-form_shown one = Int one.id ∷ Text one.code ∷ number one.version ∷ []
+abbrev pub form_shown : Older → FormRow → Row
+form_shown Two one = Int one.id ∷ Text one.code ∷ number one.version ∷ []
 
-abbrev pub forms_shown : Tables → ℤ → List Row
-forms_shown t lab = map form_shown (own_forms t lab)
+abbrev pub forms_shown : Older → Tables → ℤ → List Row
+forms_shown older t lab = map (form_shown older) (own_forms t lab)
 
 abbrev pub field_shown : FieldRow → Row
 field_shown one =
@@ -93,13 +96,13 @@ record_shown one =
 abbrev pub records_shown : Tables → ℤ → List Row
 records_shown t lab = map record_shown (own_records t lab)
 
-abbrev pub version_shown : Tables → VersionRow → Row
-version_shown t one =
+abbrev pub version_shown : Older → Tables → VersionRow → Row
+version_shown Two t one =
     Int one.id ∷ number one.number ∷ Text (code_of t one.opener) ∷ number one.opened
     ∷ optional Text one.reason ∷ Int (lab_of t one.opener) ∷ []
 
-abbrev pub versions_shown : Tables → ℤ → List Row
-versions_shown t kept = map (version_shown t) (own_versions t kept)
+abbrev pub versions_shown : Older → Tables → ℤ → List Row
+versions_shown older t kept = map (version_shown older t) (own_versions t kept)
 
 abbrev pub entry_shown : Tables → EntryRow → Row
 entry_shown t one =

@@ -1,9 +1,10 @@
 //! Versions of forms of a laboratory, their fields and the names of these, each by its own row.
 
 ghost use Rattle.std.specs.Prelude.{◌≡◌};
-ghost use Rattle.lab_move_tables.specs.Reading.{ReadsOld};
+ghost use Rattle.lab_move_tables.specs.Reading.{ReadsBy, ReadsOld};
 ghost use Rattle.lab_move_tables.specs.Shown.{forms_shown, fields_shown, choices_shown};
 
+use crate::older::Older;
 use lab_store_read::asking::rows_by_one;
 use lab_store_read::{ReadFault, Readable};
 use sqlite::Row;
@@ -12,15 +13,11 @@ use sqlite::Row;
 ///
 /// # Errors
 /// The store refused, or memory ran out.
-pub fn form_rows<D: Readable>(conn: &mut D, lab: i64) -> Result<Vec<Row>, ReadFault>
-    ensures { ReadsOld (λ t rows. rows.items ≡ forms_shown t lab)
+pub fn form_rows<D: Readable>(conn: &mut D, older: Older, lab: i64) -> Result<Vec<Row>, ReadFault>
+    ensures { ReadsBy older (λ t rows. rows.items ≡ forms_shown older t lab)
         (D.state conn.old) (D.state conn.new) result }
 {
-    rows_by_one(
-        conn,
-        "SELECT id, code, version FROM forms WHERE lab = ?1 ORDER BY code, version",
-        lab,
-    )
+    rows_by_one(conn, older.form_text(), lab)
 }
 
 /// The fields of the version of a form with the id, in the order of their places.

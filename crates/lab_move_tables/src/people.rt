@@ -1,9 +1,10 @@
 //! Persons and sessions of a laboratory, each by its own row.
 
 ghost use Rattle.std.specs.Prelude.{◌≡◌};
-ghost use Rattle.lab_move_tables.specs.Reading.{ReadsOld};
+ghost use Rattle.lab_move_tables.specs.Reading.{ReadsBy, ReadsOld};
 ghost use Rattle.lab_move_tables.specs.Shown.{persons_shown, owners_shown, sessions_shown};
 
+use crate::older::Older;
 use lab_store_read::asking::rows_by_one;
 use lab_store_read::{ReadFault, Readable};
 use sqlite::Row;
@@ -12,15 +13,11 @@ use sqlite::Row;
 ///
 /// # Errors
 /// The store refused, or memory ran out.
-pub fn person_rows<D: Readable>(conn: &mut D, lab: i64) -> Result<Vec<Row>, ReadFault>
-    ensures { ReadsOld (λ t rows. rows.items ≡ persons_shown t lab)
+pub fn person_rows<D: Readable>(conn: &mut D, older: Older, lab: i64) -> Result<Vec<Row>, ReadFault>
+    ensures { ReadsBy older (λ t rows. rows.items ≡ persons_shown older t lab)
         (D.state conn.old) (D.state conn.new) result }
 {
-    rows_by_one(
-        conn,
-        "SELECT code, name, roles, retired, failures, locked, kind, salt, rounds, bytes, salt2, bytes2, changed, asker, asked, ask_salt, ask_bytes FROM persons WHERE lab = ?1 ORDER BY code",
-        lab,
-    )
+    rows_by_one(conn, older.person_text(), lab)
 }
 
 /// The code and the laboratory of the person with the id.

@@ -1,10 +1,11 @@
 //! Records of a laboratory, their versions, and the entries and signatures of these, each by its own row.
 
 ghost use Rattle.std.specs.Prelude.{◌≡◌, map};
-ghost use Rattle.lab_move_tables.specs.Reading.{ReadsOld};
+ghost use Rattle.lab_move_tables.specs.Reading.{ReadsBy, ReadsOld};
 ghost use Rattle.lab_move_tables.specs.Showing.{said_at};
 ghost use Rattle.lab_move_tables.specs.Shown.{records_shown, versions_shown, entries_shown, entry_places_shown, signatures_shown, signature_places_shown};
 
+use crate::older::Older;
 use lab_store_read::asking::rows_by_one;
 use lab_store_read::{ReadFault, Readable};
 use sqlite::Row;
@@ -28,15 +29,15 @@ pub fn record_rows<D: Readable>(conn: &mut D, lab: i64) -> Result<Vec<Row>, Read
 ///
 /// # Errors
 /// The store refused, or memory ran out.
-pub fn version_rows<D: Readable>(conn: &mut D, kept: i64) -> Result<Vec<Row>, ReadFault>
-    ensures { ReadsOld (λ t rows. map (said_at 4) rows.items ≡ versions_shown t kept)
+pub fn version_rows<D: Readable>(
+    conn: &mut D,
+    older: Older,
+    kept: i64,
+) -> Result<Vec<Row>, ReadFault>
+    ensures { ReadsBy older (λ t rows. map (said_at 4) rows.items ≡ versions_shown older t kept)
         (D.state conn.old) (D.state conn.new) result }
 {
-    rows_by_one(
-        conn,
-        "SELECT versions.id, versions.number, persons.code, versions.opened, versions.reason, persons.lab FROM versions, persons WHERE versions.record = ?1 AND persons.id = versions.opener ORDER BY versions.number",
-        kept,
-    )
+    rows_by_one(conn, older.version_text(), kept)
 }
 
 /// The entries of the version with the id, in the order of their places, each with the code and the laboratory of its person.

@@ -11,12 +11,12 @@ use Rattle.lab_store_tables.specs.Ready.{tables_of}
 use Rattle.lab_forms_texts.specs.Faults.{memory_entry}
 use Rattle.lab_forms_streams.specs.declared.sending.WriteFault.{WriteFault as Untold}
 use Rattle.lab_forms_streams.specs.Sending.{write_fault_word}
+use Rattle.lab_move.specs.OldFiles.{StandsFor}
 use Rattle.lab_move.specs.Moving.{HasCause, IsMoved, IsStart, LeavesUnfinished}
 use Rattle.lab_move.specs.declared.faults.MoveFault.{MoveFault}
 use Rattle.lab_move.specs.declared.faults.MoveFault.TheVariants.{File, NotSound}
 use Rattle.lab_store_tables.specs.Rows.{Tables}
 use Rattle.lab_move_tables.specs.Reading.{PassesOver, ReadsOld}
-use Rattle.lab_move_tables.specs.Standing.{StandsFor}
 use Rattle.lab_program_host.specs.TaskEnds.{TaskEnd}
 use Rattle.lab_program_opening.specs.declared.faults.OpenFault.{OpenFault}
 use Rattle.lab_program_opening.specs.declared.faults.OpenFault.TheVariants.{File as Unopened}

@@ -35,7 +35,7 @@ impl<'a, H: Volume> MoveProgress for Teller<'a, H> {
     }
 }
 
-// The old file at the path, of schema 2.
+// The old file at the path, of an older schema.
 fn old_file<H: Volume>(
     alloc: Global,
     volume: &mut H,
@@ -47,7 +47,7 @@ fn old_file<H: Volume>(
     let conn = open_old(alloc, volume, path, new)?;
     let mut file = OldFile { conn };
     match lab_move::open_old(&mut file) {
-        Ok(()) => Ok(file),
+        Ok(_) => Ok(file),
         Err(fault) => {
             volume.leave_new();
             Err(OpenFault::File(fault))

@@ -1,7 +1,7 @@
 use Rattle.std.proofs.Common.{Err}
 use Rattle.sqlite.specs.Held.{state}
 use Rattle.lab_store_tables.specs.Ready.{tables_of}
-use Rattle.lab_move_tables.proofs.OldReaders.{may_end}
+use Rattle.lab_move_tables.proofs.OldReaders.{by_schema, may_end}
 use Rattle.lab_move.proofs.AllLabs.{all_counted, all_filled, all_blamed}
 use Rattle.lab_move.proofs.CountedFiles.{counted_since}
 use Rattle.lab_move.proofs.OldVerdicts.{of_store_by}
@@ -11,11 +11,11 @@ use Rattle.lab_move.proofs.filling.fill.Goals as goal
 pub returns-in-Ok-clause-reads : goal.returns-in-Ok-clause-reads
 returns-in-Ok-clause-reads g c =
     all_counted c.in-Ok.codes (g.D.Readable.state c.args.old.now) (g.D.Readable.state c.codes.new.conn) (g.D.Readable.state c.move_all.new.old)
-    c.in-Ok.ensures (rw c.as_slice.ensures at c.move_all.ensures.reads)
+    (by_schema c.in-Ok.ensures) (rw c.as_slice.ensures at c.move_all.ensures.reads)
 
 pub returns-in-Ok-clause-fills : goal.returns-in-Ok-clause-fills
 returns-in-Ok-clause-fills g c =
-    all_filled c.in-Ok.codes (g.D.Readable.state c.args.old.now) (g.D.Readable.state c.codes.new.conn) (g.D.Readable.state c.move_all.new.old) c.in-Ok.ensures
+    all_filled c.in-Ok.codes (g.D.Readable.state c.args.old.now) (g.D.Readable.state c.codes.new.conn) (g.D.Readable.state c.move_all.new.old) (by_schema c.in-Ok.ensures)
     c.move_all.ensures.reads.passes.clean c.move_all.result (rw c.as_slice.ensures at c.move_all.ensures.fills)
 
 pub returns-in-Ok-clause-counted : goal.returns-in-Ok-clause-counted
@@ -27,11 +27,11 @@ returns-in-Ok-clause-counted g c clean late opened begun =
 
 pub returns-in-Ok-clause-fault : goal.returns-in-Ok-clause-fault
 returns-in-Ok-clause-fault g c =
-    all_blamed c.in-Ok.codes (g.D.Readable.state c.args.old.now) (g.D.Readable.state c.codes.new.conn) (g.D.Readable.state c.move_all.new.old) c.in-Ok.ensures
+    all_blamed c.in-Ok.codes (g.D.Readable.state c.args.old.now) (g.D.Readable.state c.codes.new.conn) (g.D.Readable.state c.move_all.new.old) (by_schema c.in-Ok.ensures)
     c.move_all.ensures.reads.passes.clean c.move_all.result (rw c.as_slice.ensures at c.move_all.ensures.fault)
 
 pub returns-in-Err-clause-reads : goal.returns-in-Err-clause-reads
-returns-in-Err-clause-reads g c = may_end c.in-Err.ensures (Err _) (λ e. Unit {0}) tt
+returns-in-Err-clause-reads g c = may_end (by_schema c.in-Err.ensures) (Err _) (λ e. Unit {0}) tt
 
 pub returns-in-Err-clause-fills : goal.returns-in-Err-clause-fills
 returns-in-Err-clause-fills g c = nothing_by_steps _ (state g.T.Store c.args.new.now) c.requires.at_rest

@@ -1,14 +1,14 @@
 use Rattle.std.proofs.Common.{Err}
 use Rattle.sqlite.specs.Held.{state}
 use Rattle.lab_store_tables.specs.Ready.{tables_of}
-use Rattle.lab_move_tables.proofs.OldReaders.{may_end}
+use Rattle.lab_move_tables.proofs.OldReaders.{by_schema, may_end}
 use Rattle.lab_move.proofs.OneLab.{errs_as}
 use Rattle.lab_move.proofs.AllLabs.{counted, finishes_all, all_later, fails_all}
 use Rattle.lab_move.proofs.CountedFiles.{counted_since, filling_of}
 use Rattle.lab_move.proofs.filling.move_all.Goals as goal
 
 pub returns-in-Ok-clause-reads : goal.returns-in-Ok-clause-reads
-returns-in-Ok-clause-reads g c = counted c.args.codes.now c.in-Ok.ensures.reads c.finish_compared.ensures.reads
+returns-in-Ok-clause-reads g c = counted c.args.codes.now c.in-Ok.ensures.reads (by_schema c.finish_compared.ensures.reads)
 
 pub returns-in-Ok-clause-fills : goal.returns-in-Ok-clause-fills
 returns-in-Ok-clause-fills g c =

@@ -1,6 +1,7 @@
 use Rattle.std.proofs.Common.{drop, length, ◌+◌, ◌<◌, subst, arith}
 use Rattle.std.proofs.lemmas.List.{take_all}
 use Rattle.sqlite.specs.Held.{state}
+use Rattle.lab_move_tables.specs.Standing.{StandsBy}
 use Rattle.lab_move_read_people.proofs.KeptLoops.{then_fails}
 use Rattle.lab_move.proofs.EachLab.{HasMoved, none_moved, one_moved, next_fills, blamed_first, fills_fail, blames_on, split_at, grown, all_read, all_filled}
 use Rattle.lab_move.proofs.filling.move_each.Goals as goal
@@ -18,7 +19,7 @@ loop-place-preserved g c =
     let within : place < length codes = omega (arith, c.loop-place-test.true) in
     let code = c.index-codes-place.result in
     subst
-    (λ done. HasMoved done (g.D.Readable.state c.args.old.now) (g.D.Readable.state c.move_lab.new.old) (state g.T.Store c.args.new.now) (state g.T.Store c.move_lab.new.new))
+    (λ done. HasMoved (StandsBy c.args.older) done (g.D.Readable.state c.args.old.now) (g.D.Readable.state c.move_lab.new.old) (state g.T.Store c.args.new.now) (state g.T.Store c.move_lab.new.new))
     (grown codes place code code within c.index-codes-place.is)
     (one_moved c.loop-place.invariant code c.in_ok-move_lab.ensures.reads c.in_ok-move_lab.ensures.carries)
 

@@ -1,5 +1,6 @@
 use Rattle.std.proofs.Common.{Err}
 use Rattle.sqlite.specs.Held.{state}
+use Rattle.lab_move_tables.specs.Standing.{StandsBy}
 use Rattle.lab_move_tables.proofs.OldReaders.{may_end}
 use Rattle.lab_move_files.proofs.Commits.{nothing_made}
 use Rattle.lab_move.proofs.OneLab.{blames_as, errs_as, lab_reads, lab_carries, lab_blamed, unread_blamed}
@@ -23,5 +24,5 @@ returns-in-Err-clause-carries g c = nothing_made _ _ (state g.T.Store c.args.new
 pub returns-in-Err-clause-fault : goal.returns-in-Err-clause-fault
 returns-in-Err-clause-fault g c =
     blames_as c.unread.result
-    (unread_blamed c.args.code.now c.in-Err.fault (g.D.Readable.state c.args.old.now) (g.D.Readable.state c.whole.new.conn) c.in-Err.ensures.not_kept)
+    (unread_blamed (StandsBy c.args.older) c.args.code.now c.in-Err.fault (g.D.Readable.state c.args.old.now) (g.D.Readable.state c.whole.new.conn) c.in-Err.ensures.not_kept)
     c.unread.ensures

@@ -1,26 +1,28 @@
-use Rattle.std.proofs.Common.{Err}
+use Rattle.std.proofs.Common.{Err, subst, sym}
 use Rattle.sqlite.specs.Held.{state}
 use Rattle.lab_move_tables.proofs.OldReaders.{may_and, may_end}
 use Rattle.lab_move_files.proofs.Commits.{nothing_made}
-use Rattle.lab_move.proofs.OldVerdicts.{any_ok}
+use Rattle.lab_store_read.proofs.Queries.{if_then}
+use Rattle.lab_move.specs.OldFiles.{Names}
+use Rattle.lab_move.proofs.OldVerdicts.{any_ok, names_so}
 use Rattle.lab_move.proofs.Causes.{old_cause, made_cause, made_untouched, made_taken}
 use Rattle.lab_move.proofs.moving.begin.Goals as goal
 
 pub returns-in-Ok-clause-reads : goal.returns-in-Ok-clause-reads
-returns-in-Ok-clause-reads g c = may_and c.in-Ok.ensures.reads (λ t file it. any_ok c.make_tables.result)
+returns-in-Ok-clause-reads g c = may_and c.in-Ok.ensures.reads (λ t file it. any_ok c.make_for.result)
 
 pub returns-in-Ok-clause-cause : goal.returns-in-Ok-clause-cause
 returns-in-Ok-clause-cause g c =
-    made_cause (state g.S.Store c.args.old.now.conn) (state g.S.Store c.open_old.new.file.conn) (state g.T.Store c.args.new.now) c.make_tables.result
-    c.make_tables.ensures.fault c.make_tables.ensures.not_empty
+    made_cause (state g.S.Store c.args.old.now.conn) (state g.S.Store c.open_old.new.file.conn) (state g.T.Store c.args.new.now) c.make_for.result
+    c.make_for.ensures.fault c.make_for.ensures.not_empty
 
 pub returns-in-Ok-clause-untouched : goal.returns-in-Ok-clause-untouched
 returns-in-Ok-clause-untouched g c =
-    made_untouched (state g.S.Store c.args.old.now.conn) (state g.S.Store c.open_old.new.file.conn) (state g.T.Store c.args.new.now) c.make_tables.result
-    c.make_tables.ensures.fault c.make_tables.ensures.not_empty
+    made_untouched (state g.S.Store c.args.old.now.conn) (state g.S.Store c.open_old.new.file.conn) (state g.T.Store c.args.new.now) c.make_for.result
+    c.make_for.ensures.fault c.make_for.ensures.not_empty
 
 pub returns-in-Ok-clause-taken : goal.returns-in-Ok-clause-taken
-returns-in-Ok-clause-taken g c taken = made_taken c.make_tables.result (c.make_tables.ensures.taken taken) c.make_tables.ensures.not_empty
+returns-in-Ok-clause-taken g c taken = made_taken c.make_for.result (c.make_for.ensures.taken taken) c.make_for.ensures.not_empty
 
 pub returns-in-Err-clause-reads : goal.returns-in-Err-clause-reads
 returns-in-Err-clause-reads g c = may_end c.in-Err.ensures.reads (Err c.in-Err.fault) (λ e. Unit {0}) tt
@@ -32,3 +34,11 @@ pub returns-in-Err-clause-cause : goal.returns-in-Err-clause-cause
 returns-in-Err-clause-cause g c =
     old_cause (state g.S.Store c.args.old.now.conn) (state g.S.Store c.open_old.new.file.conn) (state g.T.Store c.args.new.now) c.in-Err.fault
     c.in-Err.ensures.answer c.in-Err.ensures.ours c.in-Err.ensures.fault
+
+pub returns-in-Ok-clause-older : goal.returns-in-Ok-clause-older
+returns-in-Ok-clause-older g c clean =
+    let old = state g.S.Store c.args.old.now.conn in
+    let mid = state g.S.Store c.open_old.new.file.conn in
+    let older = c.in-Ok.older in
+    let named = names_so old mid older (c.in-Ok.ensures.answer clean) in
+    if_then c.make_for.result (λ one same. subst (λ it. Names it old.now) (sym same) named) c.make_for.ensures.is

@@ -1,11 +1,14 @@
 use Rattle.std.proofs.Common.{Err}
 use Rattle.sqlite.specs.Held.{state}
 use Rattle.lab_store_tables.specs.Ready.{tables_of}
-use Rattle.lab_move_tables.proofs.OldReaders.{may_then, may_end}
+use Rattle.lab_move_tables.specs.Standing.{StandsBy}
+use Rattle.lab_move_tables.proofs.OldReaders.{by_schema, may_then, may_end, reads_bare}
 use Rattle.lab_move.proofs.AllLabs.{read_on}
 use Rattle.lab_move.proofs.Ends.{unbegun, left_unfinished, started, whole_now}
 use Rattle.lab_move.proofs.CountedFiles.{begun_open, counted_since}
 use Rattle.lab_move.proofs.Causes.{filled_cause, filled_late, all_moved}
+use Rattle.lab_move.specs.OldFiles.{StandsFor}
+use Rattle.lab_move.proofs.OldVerdicts.{stands_by}
 use Rattle.lab_move.proofs.moving.migrate.Goals as goal
 
 pub returns-in-Ok-clause-moved : goal.returns-in-Ok-clause-moved
@@ -14,9 +17,11 @@ returns-in-Ok-clause-moved g c blank clean t file read =
     let mid = state g.S.Store c.begin.new.old.conn in
     let after = state g.S.Store c.fill.new.old.conn in
     let new = state g.T.Store c.fill.new.new in
-    all_moved before after new c.fill.result t (file, read)
-    ((read_on c.in-Ok.ensures.reads c.fill.ensures.reads).answer t file read)
-    (whole_now g.T.Store blank c.in-Ok.ensures.begun before mid after (λ late. c.in-Ok.ensures.reads.shows (c.fill.ensures.reads.passes.clean late)) c.fill.ensures.fills clean)
+    let by = stands_by c.in-Ok.older before.now (c.in-Ok.ensures.older (c.fill.ensures.reads.passes.clean read)) t file in
+    all_moved StandsFor before after new c.fill.result t (file, read)
+    ((read_on (by_schema c.in-Ok.ensures.reads) c.fill.ensures.reads).answer t by read)
+    (whole_now g.T.Store blank c.in-Ok.ensures.begun before mid after (λ late. c.in-Ok.ensures.reads.shows (c.fill.ensures.reads.passes.clean late))
+    (λ late. stands_by c.in-Ok.older before.now (c.in-Ok.ensures.older (c.fill.ensures.reads.passes.clean late))) c.fill.ensures.fills clean)
 
 pub returns-in-Ok-clause-counted : goal.returns-in-Ok-clause-counted
 returns-in-Ok-clause-counted g c blank clean late =
@@ -32,18 +37,19 @@ returns-in-Ok-clause-ready g c blank clean =
     let mid = state g.S.Store c.begin.new.old.conn in
     let after = state g.S.Store c.fill.new.old.conn in
     started g.T.Store blank c.in-Ok.ensures.begun before mid after (λ late. c.in-Ok.ensures.reads.shows (c.fill.ensures.reads.passes.clean late))
-    c.fill.ensures.fills clean
+    (λ late. stands_by c.in-Ok.older before.now (c.in-Ok.ensures.older (c.fill.ensures.reads.passes.clean late))) c.fill.ensures.fills clean
 
 pub returns-in-Ok-clause-refused : goal.returns-in-Ok-clause-refused
 returns-in-Ok-clause-refused g c =
     let before = state g.S.Store c.args.old.now.conn in
     let mid = state g.S.Store c.begin.new.old.conn in
     let after = state g.S.Store c.fill.new.old.conn in
-    filled_cause before mid after (state g.T.Store c.args.new.now) c.fill.result
-    (λ late. c.in-Ok.ensures.reads.shows (c.fill.ensures.reads.passes.clean late)) c.fill.ensures.fault
+    filled_cause (StandsBy c.in-Ok.older) before mid after (state g.T.Store c.args.new.now) c.fill.result
+    (λ late. c.in-Ok.ensures.reads.shows (c.fill.ensures.reads.passes.clean late))
+    (λ late. stands_by c.in-Ok.older before.now (c.in-Ok.ensures.older (c.fill.ensures.reads.passes.clean late))) c.fill.ensures.fault
 
 pub returns-in-Ok-clause-old_same : goal.returns-in-Ok-clause-old_same
-returns-in-Ok-clause-old_same g c = may_then c.in-Ok.ensures.reads c.fill.ensures.reads (λ t file it count counted. tt)
+returns-in-Ok-clause-old_same g c = may_then c.in-Ok.ensures.reads (reads_bare c.fill.ensures.reads) (λ t file it count counted. tt)
 
 pub returns-in-Ok-clause-unfinished : goal.returns-in-Ok-clause-unfinished
 returns-in-Ok-clause-unfinished g c blank =
@@ -51,11 +57,11 @@ returns-in-Ok-clause-unfinished g c blank =
     let mid = state g.S.Store c.begin.new.old.conn in
     let after = state g.S.Store c.fill.new.old.conn in
     left_unfinished g.T.Store blank c.in-Ok.ensures.begun before mid after (λ late. c.in-Ok.ensures.reads.shows (c.fill.ensures.reads.passes.clean late))
-    c.fill.ensures.fills
+    (λ late. stands_by c.in-Ok.older before.now (c.in-Ok.ensures.older (c.fill.ensures.reads.passes.clean late))) c.fill.ensures.fills
 
 pub returns-in-Ok-clause-untouched : goal.returns-in-Ok-clause-untouched
 returns-in-Ok-clause-untouched g c =
-    filled_late _ (state g.S.Store c.begin.new.old.conn) (state g.S.Store c.fill.new.old.conn) c.fill.result c.fill.ensures.fault
+    filled_late (StandsBy c.in-Ok.older) _ (state g.S.Store c.begin.new.old.conn) (state g.S.Store c.fill.new.old.conn) c.fill.result c.fill.ensures.fault
 
 pub returns-in-Ok-clause-taken : goal.returns-in-Ok-clause-taken
 returns-in-Ok-clause-taken g c taken = absurd (c.in-Ok.ensures.taken taken).0

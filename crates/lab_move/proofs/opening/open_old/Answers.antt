@@ -8,10 +8,10 @@ use Rattle.lab_move.proofs.OldVerdicts.{ours_named, ours_taken, not_taken, verdi
 use Rattle.lab_move.proofs.opening.open_old.Goals as goal
 
 pub returns-then-not-has_number-clause-ours : goal.returns-then-not-has_number-clause-ours
-returns-then-not-has_number-clause-ours g c clean named =
+returns-then-not-has_number-clause-ours g c clean older named =
     let old = state g.S.Store c.args.file.now.conn in
     let unnamed : has_number old.now.schema ≡ false = search rules in
-    let is : has_number old.now.schema ≡ true = ours_named old named in
+    let is : has_number old.now.schema ≡ true = ours_named older old named in
     absurd cc
 
 pub returns-then-not-has_number-clause-reads : goal.returns-then-not-has_number-clause-reads
@@ -26,12 +26,12 @@ returns-in-Ok-clause-answer g c clean =
     inl (inr (rows, c.in-Ok.ensures.shown clean, verdict_at old new rows c.verdict.result (c.in-Ok.ensures.reads.shows clean) is))
 
 pub returns-in-Ok-clause-ours : goal.returns-in-Ok-clause-ours
-returns-in-Ok-clause-ours g c clean named =
+returns-in-Ok-clause-ours g c clean older named =
     let old = state g.S.Store c.args.file.now.conn in
     let new = state g.S.Store c.number_rows.new.tables.conn in
     let rows = c.in-Ok.rows.items in
     let is = c.verdict.ensures ∙ ap (λ (s : Schema). old_verdict s c.deref.result.now) c.schema-in-Ok.ensures.value ∙ ap (old_verdict new.now.schema) c.deref.ensures.value in
-    inl (verdict_at old new rows c.verdict.result (c.in-Ok.ensures.reads.shows clean) is ∙ ours_taken old new rows named (c.in-Ok.ensures.shown clean))
+    inl (verdict_at old new rows c.verdict.result (c.in-Ok.ensures.reads.shows clean) is ∙ ours_taken older old new rows named (c.in-Ok.ensures.shown clean))
 
 pub returns-in-Ok-clause-reads : goal.returns-in-Ok-clause-reads
 returns-in-Ok-clause-reads g c = may_and c.in-Ok.ensures.reads (λ t file it. any_ok c.verdict.result)
@@ -43,7 +43,7 @@ pub returns-in-Err-clause-answer : goal.returns-in-Err-clause-answer
 returns-in-Err-clause-answer g c clean = inr (failed_in c.in-Err.fault c.in-Err.ensures.fault)
 
 pub returns-in-Err-clause-ours : goal.returns-in-Err-clause-ours
-returns-in-Err-clause-ours g c clean named = inr (failed_in c.in-Err.fault c.in-Err.ensures.fault)
+returns-in-Err-clause-ours g c clean older named = inr (failed_in c.in-Err.fault c.in-Err.ensures.fault)
 
 pub returns-in-Err-clause-reads : goal.returns-in-Err-clause-reads
 returns-in-Err-clause-reads g c = may_end c.in-Err.ensures.reads (Err c.in-Err.fault) (λ e. Unit {0}) tt

@@ -4,4 +4,4 @@ use Rattle.lab_move_read_people.proofs.people.persons_of_rows.Given as goal
 
 -- those of the rows so far
 abbrev pub invariant-loop-row : goal.invariant-loop-row
-invariant-loop-row l = l.made.items ≡ map person_read (take l.row-index l.rows)
+invariant-loop-row l = l.made.items ≡ map (person_read l.fn.older) (take l.row-index l.rows)

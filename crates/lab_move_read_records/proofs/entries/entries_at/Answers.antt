@@ -14,5 +14,5 @@ pub returns : goal.returns
 returns g c =
     may_both (rw (to_z-of_z w64 c.args.version c.ranges.version) at c.in_ok-rows.ensures)
     (rw (to_z-of_z w64 c.args.version c.ranges.version) at c.in_ok-places.ensures) (λ t file rows places.
-    if_then c.entries_tried.result (λ found is. is ∙ entries_shown_so t file.lifted c.args.lab c.args.version _ _ (ap (map (said_at 5)) c.deref.ensures.value ∙ rows) (c.deref-2.ensures.value ∙ places))
+    if_then c.entries_tried.result (λ found is. is ∙ entries_shown_so file.0 t file.1.lifted c.args.lab c.args.version _ _ (ap (map (said_at 5)) c.deref.ensures.value ∙ rows) (c.deref-2.ensures.value ∙ places))
     (rw (to_z-of_z w64 c.args.lab c.ranges.lab) at c.entries_tried.ensures))

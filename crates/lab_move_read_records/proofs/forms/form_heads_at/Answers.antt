@@ -8,5 +8,5 @@ use Rattle.lab_move_read_records.proofs.forms.form_heads_at.Goals as goal
 
 pub returns : goal.returns
 returns g c = may_and (rw (to_z-of_z w64 c.args.lab c.ranges.lab) at c.in_ok-rows.ensures) (λ t file rows.
-    if_then c.forms_of_rows.result (λ made is. is ∙ ap (map form_read) (c.deref.ensures.value ∙ rows)
-    ∙ forms_found t c.args.lab) c.forms_of_rows.ensures)
+    if_then c.forms_of_rows.result (λ made is. is ∙ ap (map (form_read c.args.older)) (c.deref.ensures.value ∙ rows)
+    ∙ forms_found c.args.older t file.lifted c.args.lab) c.forms_of_rows.ensures)

@@ -7,4 +7,4 @@ use Rattle.lab_move_tables.proofs.forms.choice_rows.Goals as goal
 pub returns : goal.returns
 returns g c =
     rows_read choice_means.read (rw (to_z-of_z w64 c.args.field c.ranges.field) at c.rows_by_one.ensures)
-    (λ t file rows. file.choices c.args.field rows.items)
+    (λ t file rows. file.1.choices c.args.field rows.items)

@@ -7,4 +7,4 @@ use Rattle.lab_move_tables.proofs.forms.field_rows.Goals as goal
 pub returns : goal.returns
 returns g c =
     rows_read field_means.read (rw (to_z-of_z w64 c.args.form c.ranges.form) at c.rows_by_one.ensures)
-    (λ t file rows. file.fields c.args.form rows.items)
+    (λ t file rows. file.1.fields c.args.form rows.items)

@@ -3,4 +3,4 @@ use Rattle.lab_move_tables.proofs.OldTexts.{lab_means}
 use Rattle.lab_move_tables.proofs.labs.lab_rows.Goals as goal
 
 pub returns : goal.returns
-returns g c = rows_read lab_means.read c.rows_by_text.ensures (λ t file rows. file.lab c.args.code.now rows.items)
+returns g c = rows_read lab_means.read c.rows_by_text.ensures (λ t file rows. file.1.lab c.args.code.now rows.items)

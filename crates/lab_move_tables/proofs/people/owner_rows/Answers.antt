@@ -7,4 +7,4 @@ use Rattle.lab_move_tables.proofs.people.owner_rows.Goals as goal
 pub returns : goal.returns
 returns g c =
     rows_read owner_means.read (rw (to_z-of_z w64 c.args.id c.ranges.id) at c.rows_by_one.ensures)
-    (λ t file rows. file.owner c.args.id rows.items)
+    (λ t file rows. file.1.owner c.args.id rows.items)

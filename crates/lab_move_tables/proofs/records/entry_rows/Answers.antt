@@ -7,4 +7,4 @@ use Rattle.lab_move_tables.proofs.records.entry_rows.Goals as goal
 pub returns : goal.returns
 returns g c =
     rows_read entry_means.read (rw (to_z-of_z w64 c.args.version c.ranges.version) at c.rows_by_one.ensures)
-    (λ t file rows. file.entries c.args.version rows.items)
+    (λ t file rows. file.1.entries c.args.version rows.items)

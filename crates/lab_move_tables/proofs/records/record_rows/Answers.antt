@@ -7,4 +7,4 @@ use Rattle.lab_move_tables.proofs.records.record_rows.Goals as goal
 pub returns : goal.returns
 returns g c =
     rows_read filed_means.read (rw (to_z-of_z w64 c.args.lab c.ranges.lab) at c.rows_by_one.ensures)
-    (λ t file rows. file.records c.args.lab rows.items)
+    (λ t file rows. file.1.records c.args.lab rows.items)

@@ -7,4 +7,4 @@ use Rattle.lab_move_tables.proofs.records.signature_places.Goals as goal
 pub returns : goal.returns
 returns g c =
     rows_read signature_place_means.read (rw (to_z-of_z w64 c.args.version c.ranges.version) at c.rows_by_one.ensures)
-    (λ t file rows. file.signature_places c.args.version rows.items)
+    (λ t file rows. file.1.signature_places c.args.version rows.items)

@@ -7,4 +7,4 @@ use Rattle.lab_move_tables.proofs.trails.told_rows.Goals as goal
 pub returns : goal.returns
 returns g c =
     rows_read told_means.read (rw (to_z-of_z w64 c.args.lab c.ranges.lab) at c.rows_by_one.ensures)
-    (λ t file rows. file.trail c.args.lab rows.items)
+    (λ t file rows. file.1.trail c.args.lab rows.items)

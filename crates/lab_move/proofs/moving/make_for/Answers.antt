@@ -1,0 +1,8 @@
+use Rattle.lab_move_files.proofs.Commits.{told_ok, told_err}
+use Rattle.lab_move.proofs.moving.make_for.Goals as goal
+
+pub returns-in-Ok-clause-begun : goal.returns-in-Ok-clause-begun
+returns-in-Ok-clause-begun g c = told_ok tt c.args.older c.in-Ok.ensures.begun
+
+pub returns-in-Err-clause-begun : goal.returns-in-Err-clause-begun
+returns-in-Err-clause-begun g c = told_err _ _ c.in-Err.ensures.begun
