@@ -6,8 +6,9 @@ ghost use Rattle.lab_store_tables.specs.Ready.{IsAtRest};
 ghost use Rattle.lab_store_files.specs.NewFiles.{IsBlank, no_schema};
 ghost use Rattle.lab_program_opening.specs.Files.{Finds, IsBlankFile, IsNewFrom, IsOpened, IsOurs, IsOursFrom};
 
+use crate::ends::Closing;
 use crate::faults::OpenFault;
-use crate::volumes::{Closing, Volume};
+use crate::volumes::Volume;
 use lab_store_files::{FileFault, create, open};
 use sqlite::{Alter, Connection};
 use sqlite_schema::schema::Schema;

@@ -11,7 +11,7 @@ use crate::additions::Additions;
 use crate::faults::OpenFault;
 use crate::trouble::Trouble;
 use lab_store_files::FileFault;
-use sqlite::{Alter, Connection, Error, FileFrom, FileStore, MemStore, Start};
+use sqlite::{Alter, Connection};
 use std::alloc::Global;
 
 /// A place where files lie, each at a path, and the advice for a person when a task over a file
@@ -92,23 +92,4 @@ pub trait Volume {
 
     /// Prints a line for a person at a terminal: what to do about the trouble.
     fn advise(&mut self, trouble: Trouble<'_>);
-}
-
-/// What can be closed.
-pub trait Closing {
-    /// Closes the connection: what was committed then lies in the file alone. If closing fails, the
-    /// file and its log hold it together, and nothing is lost.
-    fn close_whole(self) -> Result<(), Error>;
-}
-
-impl<S: Start> Closing for Connection<FileStore<FileFrom<S>>> {
-    fn close_whole(self) -> Result<(), Error> {
-        self.close()
-    }
-}
-
-impl Closing for Connection<MemStore> {
-    fn close_whole(self) -> Result<(), Error> {
-        Ok(())
-    }
 }
