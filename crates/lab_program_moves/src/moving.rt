@@ -6,14 +6,14 @@ ghost use Rattle.lab_store_files.specs.NewFiles.{IsBlank};
 ghost use Rattle.lab_store_tables.specs.Ready.{IsAtRest};
 ghost use Rattle.lab_program_opening.specs.Files.{IsBlankAt};
 ghost use Rattle.lab_program_opening.specs.Faults.{TellsWord};
-ghost use Rattle.lab_program_moves.specs.Moves.{IsAsked, IsMigration, Moves, Prints, TellsFault, TellsUnsound, migrated_line};
+ghost use Rattle.lab_program_moves.specs.Moves.{IsAsked, IsMigration, MovesTo, Prints, TellsFault, TellsUnsound, migrated_line};
 
 use lab_forms_streams::{WriteFault, write_whole};
 use lab_forms_texts::{LabCode, OutOfMemory};
 use lab_move::{MoveFault, MoveProgress, OldFile};
 use lab_program_host::{Host, ServerFault, tell};
 use lab_program_opening::{
-    Closing, OpenFault, Trouble, Volume, decline, decline_by, open_new, open_old,
+    Closing, Ended, Finished, OpenFault, Trouble, Volume, decline, decline_by, open_new, open_old,
 };
 use sqlite::Connection;
 use std::alloc::Global;
@@ -132,26 +132,26 @@ fn decline_move<H: Volume, E: Write>(
     }
 }
 
-// Moves the laboratories of an old file that was opened into a new one that was, and closes the new
-// one. The old one is let go of, and not closed, since that would write to it.
+// Moves the laboratories of an old file that was opened into a new one that was, which is left to
+// be closed. The old one is let go of, and not closed, since that would write to it.
 fn count_moved<H: Volume>(
     alloc: Global,
     volume: &mut H,
     old: OldFile<H::Disk>,
     new: Connection<H::Disk>,
-) -> Result<u64, MoveFault>
-where
-    Connection<H::Disk>: Closing,
+) -> Ended<Result<u64, MoveFault>, H::Disk>
     requires at_rest { IsAtRest (state H.Disk.Store new) }
     requires blank { IsBlank (state H.Disk.Store new).now }
-    ensures { Moves H.Disk.Store old.conn new result }
+    ensures { MovesTo H.Disk.Store old.conn new result.ending result.finished }
 {
     let (mut old, mut new) = (old, new);
     let mut teller = Teller { volume };
-    let moved = lab_move::migrate(alloc, &mut old, &mut new, &mut teller);
+    let ending = lab_move::migrate(alloc, &mut old, &mut new, &mut teller);
     let Teller { volume: _ } = teller;
-    let _ = new.close_whole();
-    moved
+    Ended {
+        ending,
+        finished: Some(Finished::new(new)),
+    }
 }
 
 /// `labdesk migrate`: opens the old file at a path, of schema 2, and a new file at another, moves
@@ -192,7 +192,7 @@ where
             return decline_by(host.alloc, &mut host.volume, errors, fault, trouble);
         }
     };
-    match count_moved(host.alloc, &mut host.volume, from, into) {
+    match count_moved(host.alloc, &mut host.volume, from, into).close() {
         Ok(count) => print(host.alloc, count, output, errors),
         Err(fault) => decline_move(
             host.alloc,

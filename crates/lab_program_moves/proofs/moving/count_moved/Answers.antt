@@ -1,18 +1,22 @@
--- What `migrate` says of both connections is what is said.
+-- What `migrate` says of both connections is what is said, and the new one is left to be closed.
+use Rattle.std.proofs.Common.{Some, ap}
 use Rattle.lab_program_opening.proofs.FileLemmas.{leaves_shown}
 use Rattle.lab_program_moves.proofs.MoveLemmas.{shown_where}
 use Rattle.lab_program_moves.proofs.moving.count_moved.Goals as goal
 
 pub returns : goal.returns
-returns g c = record {
-  left = c.migrate-moved.new.old.conn;
-  made = c.migrate-moved.new.new;
-  moved = c.migrate-moved.ensures.moved c.requires.blank;
-  ready = c.migrate-moved.ensures.ready c.requires.blank;
-  shown = λ clean. shown_where c.migrate-moved.result _
-      (leaves_shown g.H.Disk.Store g.met.H.Disk.Store.settled c.migrate-moved.new.new)
-      (c.migrate-moved.ensures.ready c.requires.blank clean);
-  refused = c.migrate-moved.ensures.refused;
-  old_same = c.migrate-moved.ensures.old_same;
-  unfinished = c.migrate-moved.ensures.unfinished c.requires.blank;
-}
+returns g c = (
+  record {
+    left = c.migrate-ending.new.old.conn;
+    made = c.migrate-ending.new.new;
+    moved = c.migrate-ending.ensures.moved c.requires.blank;
+    ready = c.migrate-ending.ensures.ready c.requires.blank;
+    shown = λ clean. shown_where c.migrate-ending.result _
+        (leaves_shown g.H.Disk.Store g.met.H.Disk.Store.settled c.migrate-ending.new.new)
+        (c.migrate-ending.ensures.ready c.requires.blank clean);
+    refused = c.migrate-ending.ensures.refused;
+    old_same = c.migrate-ending.ensures.old_same;
+    unfinished = c.migrate-ending.ensures.unfinished c.requires.blank;
+  },
+  ap Some c.new.ensures,
+)

@@ -1,5 +1,5 @@
 -- Where a file isn't opened, that is told; and else how the move ended.
-use Rattle.std.proofs.Common.{Err, Ok}
+use Rattle.std.proofs.Common.{Err, Ok, sym}
 use Rattle.std.proofs.KnownBytes.{Keeps-refl}
 use Rattle.lab_program_moves.proofs.moving.migrate.Goals as goal
 
@@ -17,28 +17,30 @@ returns-in-Err-open_new g c = record {
   told = (Keeps-refl _, c.decline_by-in-Err-open_new.ensures);
 }
 
-pub returns-in-Ok-count_moved : goal.returns-in-Ok-count_moved
-returns-in-Ok-count_moved g c = record {
-  ending = Ok (Ok c.in-Ok-count_moved.count);
-  moves = (
-    c.in-Ok.file.conn,
-    c.in-Ok-open_new.conn,
-    c.in-Ok.ensures,
-    (c.old_file.new.volume, c.in-Ok-open_new.ensures.blank),
-    c.in-Ok-count_moved.ensures,
-  );
-  told = c.print.ensures;
-}
+pub returns-in-Ok-close : goal.returns-in-Ok-close
+returns-in-Ok-close g c =
+    let moves = rw (sym c.close.ensures.ending, c.in-Ok-close.is) at c.count_moved.ensures in record {
+      ending = Ok (Ok c.in-Ok-close.count);
+      moves = (
+        c.in-Ok.file.conn,
+        c.in-Ok-open_new.conn,
+        c.in-Ok.ensures,
+        (c.old_file.new.volume, c.in-Ok-open_new.ensures.blank),
+        moves.0,
+      );
+      told = c.print.ensures;
+    }
 
-pub returns-in-Err-count_moved : goal.returns-in-Err-count_moved
-returns-in-Err-count_moved g c = record {
-  ending = Ok (Err c.in-Err-count_moved.fault);
-  moves = (
-    c.in-Ok.file.conn,
-    c.in-Ok-open_new.conn,
-    c.in-Ok.ensures,
-    (c.old_file.new.volume, c.in-Ok-open_new.ensures.blank),
-    c.in-Err-count_moved.ensures,
-  );
-  told = (Keeps-refl _, c.decline_move.ensures);
-}
+pub returns-in-Err-close : goal.returns-in-Err-close
+returns-in-Err-close g c =
+    let moves = rw (sym c.close.ensures.ending, c.in-Err-close.is) at c.count_moved.ensures in record {
+      ending = Ok (Err c.in-Err-close.fault);
+      moves = (
+        c.in-Ok.file.conn,
+        c.in-Ok-open_new.conn,
+        c.in-Ok.ensures,
+        (c.old_file.new.volume, c.in-Ok-open_new.ensures.blank),
+        moves.0,
+      );
+      told = (Keeps-refl _, c.decline_move.ensures);
+    }
