@@ -269,20 +269,33 @@ def event_texts():
         s = played(part)
         text += constant(name, "Exchange", exchange(s.events[0], s.answers[0]))
         text += constant(f"ROWS_AFTER_{name}", "&[u8; 64]", said(s, rows.CODES))
-    return text
+    return text + founding_texts()
+
+
+def founding_texts():
+    """A founding beside the laboratories as they begin, and a file in which there is none."""
+    s = copy.deepcopy(laboratories())
+    s.found(100, "cider", "Cider Lab", FOUNDERS)
+    text = founding_asked(s) + constant("ROWS_AFTER_FOUNDING", "&[u8; 64]", said(s, rows.CODES))
+    return text + constant("NO_ROWS", "&[u8; 64]", said(Stream(), rows.CODES), "The digest of what no rows say.")
+
+
+def founding_asked(s):
+    """The last event, which is a founding."""
+    head, _, content = s.events.pop().partition(b"\n")
+    s.answers.pop()
+    text = constant("FOUNDING_FIRST", "u32", int(head.split()[3]), "The first of the eight random words of the founding.")
+    return text + constant("FOUNDING", "&[u8]", literal(content.decode(), 'b"'), "Its body.")
 
 
 def served_texts():
     """What two clients ask of a laboratory that was founded just before: a session is opened, and with its token the persons are read."""
     s = Stream()
     s.found(0, "aqua", "Aqua Lab", FOUNDERS)
-    head, _, content = s.events.pop().partition(b"\n")
-    s.answers.pop()
+    text = "//! What two clients ask, one after the other, and the replies, by `tests/model/disked.py`.\nuse lab_tests_rows::Exchange;\n"
+    text += founding_asked(s)
     s.open(100, "ann")
     s.get(100, "ann", "/persons")
-    text = "//! What two clients ask, one after the other, and the replies, by `tests/model/disked.py`.\nuse lab_tests_rows::Exchange;\n"
-    text += constant("FOUNDING_FIRST", "u32", int(head.split()[3]), "The first of the eight random words of the founding.")
-    text += constant("FOUNDING", "&[u8]", literal(content.decode(), 'b"'), "Its body.")
     return text + exchanges("SERVED", s, "An opening, and a reading with its token.")
 
 

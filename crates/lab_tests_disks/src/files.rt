@@ -2,9 +2,12 @@
 //! each other one is for any store of a database.
 use crate::images::Pair;
 use lab_desk::Desk;
+use lab_forms_texts::OutOfMemory;
+use lab_records_keeper::{Keeper, PlacingFault};
+use lab_records_kept::Newborn;
 use lab_store::Store;
 use lab_store_files::{FileFault, open};
-use lab_tests_rows::{Exchange, ask, database_of, desk, fill_each, make, said};
+use lab_tests_rows::{Exchange, ask, database_of, desk, fill_each, make, said, store};
 use sqlite::{Alter, Connection, FileStore, Options};
 use sqlite_disk::{Fuse, Memory};
 use std::alloc::Global;
@@ -32,6 +35,8 @@ pub enum Task<'a> {
     },
     /// What the tables of laboratories say is told.
     Tell,
+    /// A laboratory is founded.
+    Found(&'a Newborn),
     /// A desk over the laboratories is asked.
     Ask(&'a Exchange),
 }
@@ -43,9 +48,13 @@ pub enum Outcome {
     Unopened,
     /// It was opened, and is none of laboratories.
     NotOurs,
-    /// The task failed otherwise than by a reply.
+    /// The store refused to make it, or to found a laboratory in it.
+    Refused,
+    /// What is to be made or founded is there already.
+    There,
+    /// The task failed otherwise, and not by a reply.
     Failed,
-    /// It was made, or filled.
+    /// It was made, or filled, or a laboratory was founded in it.
     Filled,
     /// The digest of what the tables say.
     Told([u8; 64]),
@@ -56,6 +65,8 @@ pub enum Outcome {
 fn of_making<S: Alter>(conn: &mut Connection<S>) -> Outcome {
     match make(conn) {
         Ok(()) => Outcome::Filled,
+        Err(FileFault::Storage) => Outcome::Refused,
+        Err(FileFault::NotEmpty) => Outcome::There,
         Err(_) => Outcome::Failed,
     }
 }
@@ -115,6 +126,39 @@ fn asked<S: Alter + Drop>(
     Some(database_of(desk).into_store())
 }
 
+fn copy_of(newborn: &Newborn) -> Result<Newborn, OutOfMemory> {
+    Ok(Newborn {
+        moment: newborn.moment,
+        code: newborn.code.copy()?,
+        name: newborn.name.copy()?,
+        first: newborn.first.copy()?,
+        second: newborn.second.copy()?,
+        third: newborn.third.copy()?,
+    })
+}
+
+fn of_founding<S: Alter>(store: &mut Store<S>, newborn: Newborn) -> Outcome {
+    match store.found(newborn) {
+        Ok(()) => Outcome::Filled,
+        Err(PlacingFault::LabExists) => Outcome::There,
+        Err(PlacingFault::Storage) => Outcome::Refused,
+        Err(PlacingFault::Memory) => Outcome::Failed,
+    }
+}
+
+// Founds the laboratory in the database; none where there was no memory for one.
+fn founded<S: Alter + Drop>(
+    alloc: Global,
+    conn: Connection<S>,
+    newborn: &Newborn,
+    outcome: &mut Outcome,
+) -> Option<S> {
+    let mut store = store(alloc, conn)?;
+    let newborn = copy_of(newborn).ok()?;
+    *outcome = of_founding(&mut store, newborn);
+    Some(store.into_connection().into_store())
+}
+
 // Does what is asked of laboratories, over a database in which they are kept.
 fn worked_on_ours<S: Alter + Drop>(
     alloc: Global,
@@ -126,11 +170,14 @@ fn worked_on_ours<S: Alter + Drop>(
         *outcome = refusal;
         return Some(conn.into_store());
     }
-    if let Task::Ask(exchange) = task {
-        return asked(alloc, conn, exchange, outcome);
+    match task {
+        Task::Ask(exchange) => asked(alloc, conn, exchange, outcome),
+        Task::Found(newborn) => founded(alloc, conn, newborn, outcome),
+        Task::Make | Task::Fill { .. } | Task::Tell => {
+            *outcome = of_telling(alloc, &mut conn);
+            Some(conn.into_store())
+        }
     }
-    *outcome = of_telling(alloc, &mut conn);
-    Some(conn.into_store())
 }
 
 // Does the task over a database; none where there was no memory for it.
@@ -149,7 +196,7 @@ fn worked<S: Alter + Drop>(
             *outcome = of_filling(alloc, &mut conn, texts, ids);
             Some(conn.into_store())
         }
-        Task::Tell | Task::Ask(_) => worked_on_ours(alloc, conn, task, outcome),
+        Task::Tell | Task::Found(_) | Task::Ask(_) => worked_on_ours(alloc, conn, task, outcome),
     }
 }
 

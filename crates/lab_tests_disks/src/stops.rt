@@ -1,23 +1,48 @@
-//! What is asked of a file while a disk of it is stopped, and what is left then.
+//! A task that is tried on a file while a disk of it is stopped, and what is left then.
 use crate::files::{Outcome, Task, work};
 use crate::images::{EACH, Image, Pair, Passed, Stopped, are_passing, crash, laid, written};
-use lab_tests_rows::Exchange;
 use std::alloc::Global;
 
-// More calls of a disk than an opening and a request make.
+// More calls of a disk than an opening and a task make.
 const MOST: u64 = 4096;
 
-/// A request, and what may come of it.
+/// What comes of a task.
 #[derive(Clone, Copy)]
-pub struct Asking<'a> {
-    /// The request, and its own reply.
-    pub exchange: &'a Exchange,
-    /// The reply where the store refused.
-    pub refusal: &'a [u8],
-    /// The digest of what the rows say before it.
-    pub before: &'a [u8; 64],
-    /// That of what they say after it.
-    pub after: &'a [u8; 64],
+pub enum Comes<'a> {
+    /// It is done.
+    Filled,
+    /// The store refuses it.
+    Refused,
+    /// It was done before.
+    There,
+    /// This reply.
+    Reply(&'a [u8]),
+}
+
+/// What a file is once it is opened.
+#[derive(Clone, Copy)]
+pub enum Says<'a> {
+    /// None of laboratories.
+    NotOurs,
+    /// One whose rows say what has this digest.
+    Rows(&'a [u8; 64]),
+}
+
+/// A task, and what may come of it.
+#[derive(Clone, Copy)]
+pub struct Trial<'a> {
+    /// The task.
+    pub task: Task<'a>,
+    /// What comes of it where it is done.
+    pub done: Comes<'a>,
+    /// What comes of it where the store refuses.
+    pub refused: Comes<'a>,
+    /// What comes of it where it was done before; none where it isn't tried again.
+    pub again: Option<Comes<'a>>,
+    /// What the file is before it.
+    pub before: Says<'a>,
+    /// What the file is after it.
+    pub after: Says<'a>,
 }
 
 /// How many runs ended so, of which in each one call more is passed on than in that before it.
@@ -27,7 +52,7 @@ pub struct Ends {
     pub unopened: u32,
     /// The store refused.
     pub refused: u32,
-    /// The reply was the request's own.
+    /// The task was done.
     pub done: u32,
 }
 
@@ -58,24 +83,29 @@ impl Ends {
     }
 }
 
-// How a run ended that gave this reply; none where it is no reply that may be given.
-fn end_of_reply(reply: &[u8], asking: &Asking<'_>) -> Option<End> {
-    if reply == asking.exchange.reply {
-        return Some(End::Done);
+// Whether this came of a task.
+fn is_come(outcome: &Outcome, wanted: Comes<'_>) -> bool {
+    match (outcome, wanted) {
+        (Outcome::Filled, Comes::Filled)
+        | (Outcome::Refused, Comes::Refused)
+        | (Outcome::There, Comes::There) => true,
+        (Outcome::Replied(reply), Comes::Reply(wanted)) => reply.as_slice() == wanted,
+        _ => false,
     }
-    if reply == asking.refusal {
-        return Some(End::Refused);
-    }
-    None
 }
 
 // How a run ended of which this came; none where it may not.
-fn end_of(outcome: &Outcome, asking: &Asking<'_>) -> Option<End> {
-    match outcome {
-        Outcome::Unopened => Some(End::Unopened),
-        Outcome::Replied(reply) => end_of_reply(reply, asking),
-        Outcome::NotOurs | Outcome::Failed | Outcome::Filled | Outcome::Told(_) => None,
+fn end_of(outcome: &Outcome, trial: &Trial<'_>) -> Option<End> {
+    if let Outcome::Unopened = outcome {
+        return Some(End::Unopened);
     }
+    if is_come(outcome, trial.done) {
+        return Some(End::Done);
+    }
+    if is_come(outcome, trial.refused) {
+        return Some(End::Refused);
+    }
+    None
 }
 
 /// What lies there once the task was done with the file; none where it couldn't be.
@@ -85,7 +115,8 @@ pub fn written_by(alloc: Global, image: &Image, task: Task<'_>) -> Option<Image>
     let left = work(alloc, disks, task, &mut outcome)?;
     match outcome {
         Outcome::Filled | Outcome::Told(_) | Outcome::Replied(_) => written(alloc, &left),
-        Outcome::Unopened | Outcome::NotOurs | Outcome::Failed => None,
+        Outcome::Unopened | Outcome::NotOurs | Outcome::Refused => None,
+        Outcome::There | Outcome::Failed => None,
     }
 }
 
@@ -101,33 +132,90 @@ pub fn told_by(alloc: Global, image: &Image) -> Outcome {
     outcome
 }
 
-// Whether the rows may say this after a run that ended so.
-fn may_say(said: &[u8; 64], end: End, asking: &Asking<'_>) -> bool {
-    match end {
-        End::Unopened => said == asking.before,
-        End::Refused => said == asking.before || said == asking.after,
-        End::Done => said == asking.after,
+// Whether a file that is told is this one.
+fn is_said(told: &Outcome, wanted: Says<'_>) -> bool {
+    match (told, wanted) {
+        (Outcome::NotOurs, Says::NotOurs) => true,
+        (Outcome::Told(said), Says::Rows(rows)) => said == rows,
+        _ => false,
     }
 }
 
-// Whether this may lie there after a run that ended so. What lay there before says what it said.
-fn may_lie(alloc: Global, image: &Image, left: &Image, end: End, asking: &Asking<'_>) -> bool {
-    if left.is(image) {
-        return may_say(asking.before, end, asking);
+// Whether a task was done, by the file that is left.
+#[derive(Clone, Copy, PartialEq, Eq)]
+enum Side {
+    Before,
+    After,
+}
+
+// On which side of the task a file that is told lies; none where it is neither.
+fn side_of(told: &Outcome, trial: &Trial<'_>) -> Option<Side> {
+    if is_said(told, trial.after) {
+        return Some(Side::After);
     }
-    match told_by(alloc, left) {
-        Outcome::Told(said) => may_say(&said, end, asking),
-        Outcome::Unopened | Outcome::NotOurs | Outcome::Failed => false,
-        Outcome::Filled | Outcome::Replied(_) => false,
+    if is_said(told, trial.before) {
+        return Some(Side::Before);
     }
+    None
+}
+
+// Whether the file may lie there after a run that ended so.
+fn may_lie(side: Side, end: End) -> bool {
+    match (side, end) {
+        (Side::Before, End::Unopened | End::Refused) => true,
+        (Side::After, End::Refused | End::Done) => true,
+        (Side::Before, End::Done) | (Side::After, End::Unopened) => false,
+    }
+}
+
+// On which side of the task lies what is left on the disks; none where it is neither, or may not
+// lie there after a run that ended so. What lay there before is before it.
+fn side_left(
+    alloc: Global,
+    image: &Image,
+    left: &Image,
+    end: End,
+    trial: &Trial<'_>,
+) -> Option<Side> {
+    let side = if left.is(image) {
+        Side::Before
+    } else {
+        side_of(&told_by(alloc, left), trial)?
+    };
+    if may_lie(side, end) { Some(side) } else { None }
 }
 
 // Whether what lies on the disks after a run that ended so may lie there.
-fn is_left_well(alloc: Global, image: &Image, pair: &Pair, end: End, asking: &Asking<'_>) -> bool {
+fn is_left_well(alloc: Global, image: &Image, pair: &Pair, end: End, trial: &Trial<'_>) -> bool {
     match written(alloc, pair) {
-        Some(left) => may_lie(alloc, image, &left, end, asking),
+        Some(left) => side_left(alloc, image, &left, end, trial).is_some(),
         None => false,
     }
+}
+
+// Whether the task, tried again over what is left with no disk stopped, is done, or was done
+// before; none where there was no memory.
+fn is_done_at_last(alloc: Global, left: &Image, side: Side, trial: &Trial<'_>) -> Option<bool> {
+    let Some(there) = trial.again else {
+        return Some(true);
+    };
+    let mut outcome = Outcome::Failed;
+    let disks = laid(alloc, left, EACH)?;
+    let pair = work(alloc, disks, trial.task, &mut outcome)?;
+    let made = written(alloc, &pair)?;
+    let is_come = match side {
+        Side::Before => is_come(&outcome, trial.done),
+        Side::After => is_come(&outcome, there),
+    };
+    Some(is_come && is_said(&told_by(alloc, &made), trial.after))
+}
+
+// Whether what the machine leaves where it stops may lie there after a run that ended so, and the
+// task tried again goes on from it; none where there was no memory.
+fn goes_on(alloc: Global, image: &Image, pair: &Pair, end: End, trial: &Trial<'_>) -> Option<bool> {
+    let left = written(alloc, pair)?;
+    let side = side_left(alloc, image, &left, end, trial)?;
+    is_done_at_last(alloc, &left, side, trial)
 }
 
 // How a run ended, and whether it left some calls of both disks.
@@ -139,15 +227,15 @@ struct Ended {
 
 // How a run ends of whose disks so many calls are passed on; none where it ends otherwise than it
 // may, or leaves what may not lie there, whether the machine stops too or not.
-fn run(alloc: Global, image: &Image, passed: Passed, asking: &Asking<'_>) -> Option<Ended> {
+fn run(alloc: Global, image: &Image, passed: Passed, trial: &Trial<'_>) -> Option<Ended> {
     let mut outcome = Outcome::Unopened;
     let disks = laid(alloc, image, passed)?;
-    let mut left = work(alloc, disks, Task::Ask(asking.exchange), &mut outcome)?;
-    let end = end_of(&outcome, asking)?;
+    let mut left = work(alloc, disks, trial.task, &mut outcome)?;
+    let end = end_of(&outcome, trial)?;
     let is_passing = are_passing(&mut left);
-    let is_well = is_left_well(alloc, image, &left, end, asking);
+    let is_well = is_left_well(alloc, image, &left, end, trial);
     crash(&mut left);
-    if is_well && is_left_well(alloc, image, &left, end, asking) {
+    if is_well && goes_on(alloc, image, &left, end, trial)? {
         Some(Ended { end, is_passing })
     } else {
         None
@@ -155,21 +243,21 @@ fn run(alloc: Global, image: &Image, passed: Passed, asking: &Asking<'_>) -> Opt
 }
 
 /// How the runs end of whose log, or of whose file, each call is stopped in turn, while the file is
-/// opened and something is asked: in the first no call is passed on, and in the last all, of which
+/// opened and the task is tried: in the first no call is passed on, and in the last all, of which
 /// there is none left.
 ///
 /// # Errors
 /// So many calls were passed on in a run that ended otherwise than it may, or left what may not lie
-/// there.
+/// there, or from which the task tried again doesn't go on.
 pub fn stop_each(
     alloc: Global,
     image: &Image,
     stopped: Stopped,
-    asking: &Asking<'_>,
+    trial: &Trial<'_>,
 ) -> Result<Ends, u64> {
     let mut ends = Ends::none();
     for calls in 0..MOST {
-        match run(alloc, image, stopped.after(calls), asking) {
+        match run(alloc, image, stopped.after(calls), trial) {
             None => return Err(calls),
             Some(ended) if ended.is_passing => return Ok(ends),
             Some(ended) => ends.count(ended.end),

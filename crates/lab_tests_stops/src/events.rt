@@ -148,3 +148,20 @@ pub(crate) static COPY: Exchange = Exchange {
 
 pub(crate) static ROWS_AFTER_COPY: &[u8; 64] = b"\
     ecf11f038c66eb116dc597c5cdfb689133247ab49cb57f90f5f9a743592e4004";
+
+/// The first of the eight random words of the founding.
+pub(crate) static FOUNDING_FIRST: u32 = 10008;
+
+/// Its body.
+pub(crate) static FOUNDING: &[u8] = b"\
+    {\"founders\":[{\"code\":\"ann\",\"name\":\"Ann Ames\",\"password\":\"correct horse \
+    1\"},{\"code\":\"bob\",\"name\":\"Bob Bell\",\"password\":\"correct horse \
+    2\"},{\"code\":\"cid\",\"name\":\"Cid Cole\",\"password\":\"correct horse \
+    3\"}],\"name\":\"Cider Lab\"}";
+
+pub(crate) static ROWS_AFTER_FOUNDING: &[u8; 64] = b"\
+    35908a0aa1cd75a167e856adca2f46bc40b9aafa354b9333ee29684873b297ef";
+
+/// The digest of what no rows say.
+pub(crate) static NO_ROWS: &[u8; 64] = b"\
+    1a51c711321b52af153fcde9070dd56b045a65c6de55913dabe1adf570feaf1b";
