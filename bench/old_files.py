@@ -15,7 +15,7 @@ import sys
 TOP = pathlib.Path(__file__).resolve().parent.parent
 sys.path.insert(0, str(TOP / "tests/model"))
 import files  # noqa: E402
-from rows import schema  # noqa: E402
+from kept_rows import schema  # noqa: E402
 
 PEOPLE = {"ann": ("Ann Ames", 13), "bob": ("Bob Bell", 26), "cid": ("Cid Cole", 8)}
 

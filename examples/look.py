@@ -36,7 +36,7 @@ import time
 import day
 from day import HERE, LEAD, Day, password_of
 import laboratory
-import rows
+import kept_rows
 
 TOP = os.path.dirname(HERE)
 FOUNDERS = [("dan", "Dan Day"), ("fay", "Fay Fox"), ("gus", "Gus Gray")]
@@ -347,7 +347,7 @@ def served_day(program):
         server = Proved(room, program) if program else Tried(room)
         try:
             look = Served(lambda line: print(line, flush=True), server)
-            rows.write(f"{room}/laboratories", look.labs.values())
+            kept_rows.write(f"{room}/laboratories", look.labs.values())
             server.begin()
             server.wait()
             play(look)

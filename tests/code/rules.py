@@ -6,7 +6,7 @@ import random
 
 import admitted
 import bodies
-import cases
+import named_cases
 import laboratory
 from said import same, say
 
@@ -46,7 +46,7 @@ def values_of_cases():
     read = []
     with laboratory.old_rounds(), noted(read):
         for name in READING:
-            cases.stream_of(name)
+            named_cases.stream_of(name)
     return read
 
 

@@ -1,4 +1,4 @@
-"""Cases of foundings, passwords and accounts, which tests/model/cases.py plays: each limit to the second and the byte, on both sides, and of
+"""Cases of foundings, passwords and accounts, which tests/model/named_cases.py plays: each limit to the second and the byte, on both sides, and of
 several refusals the first. tests/cases_on_files compares the rows that each leaves, with their salts and verifiers.
 """
 from streams import FOUNDERS, compact

@@ -7,7 +7,7 @@ import shutil
 import sqlite3
 import tempfile
 
-import rows
+import kept_rows
 from report import must_be
 
 ENDS = ("", "-wal")
@@ -29,12 +29,12 @@ def told(path, room, codes):
     with copied(path, room) as base:
         for pragma, wanted in (("integrity_check", [("ok",)]), ("foreign_key_check", [])):
             must_be(pragma, base.execute(f"PRAGMA {pragma}").fetchall(), wanted)
-        return "".join(rows.told(base, code) for code in codes)
+        return "".join(kept_rows.told(base, code) for code in codes)
 
 
 def wanted(labs):
     """What the tables have to say of these laboratories, and that there is nothing beside them."""
-    return rows.all_told(labs, [*labs, "all"])
+    return kept_rows.all_told(labs, [*labs, "all"])
 
 
 def same(what, path, room, labs):
@@ -47,4 +47,4 @@ def same(what, path, room, labs):
 
 def told_by(labs, codes):
     """What tables of these laboratories say, asked by these codes."""
-    return rows.all_told(labs, [*codes, "all"])
+    return kept_rows.all_told(labs, [*codes, "all"])

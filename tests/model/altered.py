@@ -19,7 +19,7 @@ import sqlite3
 
 import inspected
 import laboratory
-import rows
+import kept_rows
 import tampered
 
 # ---- copies
@@ -306,7 +306,7 @@ def cut_off_a_page(path):
 def put_back(path):
     """The file as it was before its last days: nothing in it is altered."""
     os.remove(path)
-    rows.write(path, rows.two(earlier()))
+    kept_rows.write(path, kept_rows.two(earlier()))
 
 
 @functools.lru_cache(None)
@@ -334,7 +334,7 @@ File = collections.namedtuple("File", "group what write words printed copied")
 
 
 def write_own(path, change):
-    rows.write(path, rows.two(labs_of_the_page()))
+    kept_rows.write(path, kept_rows.two(labs_of_the_page()))
     if callable(change):
         change(path)
         return

@@ -2,7 +2,7 @@
 import copy
 import functools
 
-import cases
+import named_cases
 from streams import LEAD, NOTE
 
 
@@ -10,7 +10,7 @@ from streams import LEAD, NOTE
 def laboratories():
     """Record 1 is open; 2 is signed; 3 is released; 4 is reviewed, and its form wants an approval. Ivy has an open ask, and jon has none.
     Fay has failed four times."""
-    s = copy.deepcopy(cases.all_are_in())
+    s = copy.deepcopy(named_cases.all_are_in())
     s.post(1160, "gus", "/forms", form="soil", approval=True, fields=[LEAD, NOTE])
     for record, form in enumerate(["water", "water", "soil"], 2):
         s.post(1160, "dan", "/records", form=form, sample=f"S{record}")

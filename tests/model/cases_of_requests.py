@@ -1,4 +1,4 @@
-"""Cases of tests/model/cases.py on the bytes of requests, of foundings and of copies: a request in each spelling that docs/HTTP.md has for it
+"""Cases of tests/model/named_cases.py on the bytes of requests, of foundings and of copies: a request in each spelling that docs/HTTP.md has for it
 and cut at each of its bytes, what stands in other places of a head, bodies that are amiss at more than one member, and the texts of
 foundings. What is wanted was written by hand as RFC 9110, RFC 9112 and RFC 8259 read, or comes from tests/model/laboratory.py.
 """
@@ -8,7 +8,7 @@ import laboratory
 from bodies import changes, pairs_of, text_of
 from streams import FOUNDERS, LEAD, NOTE, WORDS, compact, lines, request_of
 
-# By name, with what each begins with, as tests/model/cases.py names it, and how it goes on.
+# By name, with what each begins with, as tests/model/named_cases.py names it, and how it goes on.
 CASES = {}
 HEAD, POST = b"GET /labs/aqua HTTP/1.1\r\nHost: d\r\n", b"POST /labs/aqua/open HTTP/1.1\r\nHost: d\r\n"
 # The words of a session whose token has each digit.

@@ -10,7 +10,7 @@ import copy
 import csv
 import sys
 
-from cases import setup
+from named_cases import setup
 from laboratory import copy_rows
 from streams import LEAD, NOTE
 

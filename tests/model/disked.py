@@ -1,6 +1,6 @@
 """Texts of crates/lab_tests_rows, lab_tests_twins, lab_tests_stops and lab_tests_served: the rows of two laboratories, what is asked
 over them, and what has to come of it. All of it is made by tests/model/laboratory.py, which is no part of the program, and
-tests/model/rows.py.
+tests/model/kept_rows.py.
 
 The laboratories are brick and aqua: the same codes, numbers and tokens, other values. An id stands as # before a number, so that
 whoever reads the rows says what it is.
@@ -9,9 +9,9 @@ import copy
 import functools
 import hashlib
 
-import cases
+import named_cases
 import laboratory
-import rows
+import kept_rows
 from streams import FOUNDERS, LEAD, NOTE, Stream, reply_of
 
 COLOUR = {"key": "colour", "label": "Colour", "required": False, "kind": "choice", "choices": ["none", "pale blue"]}
@@ -105,7 +105,7 @@ def played(*parts):
     return s
 
 
-# Of cases.py, those in which a result is entered, signed, reviewed and amended, each from the same beginning.
+# Of named_cases.py, those in which a result is entered, signed, reviewed and amended, each from the same beginning.
 WORKED = ["a_second_value_wants_a_reason_and_both_stay", "the_first_signing_takes_the_code_and_a_second_person_releases",
           "a_session_rests_for_nine_hundred_seconds", "and_not_for_a_second_more", "who_entered_a_row_signs_as_author_alone",
           "an_author_who_is_a_reviewer_too_does_not_review", "what_is_released_is_amended_and_nothing_overwritten",
@@ -115,7 +115,7 @@ WORKED = ["a_second_value_wants_a_reason_and_both_stay", "the_first_signing_take
 @functools.cache
 def beginning():
     """Where these cases begin, with passwords of the rounds of before. In brick there is a form, so that its people can open records."""
-    s = copy.deepcopy(cases.as_before(cases.setup))
+    s = copy.deepcopy(named_cases.as_before(named_cases.setup))
     for who in ("ann", "bob"):
         s.open(1100, who, lab="brick", who=f"{who} of brick")
     s.post(1100, "bob of brick", "/roles", lab="brick", code="ann", roles=["analyst", "manager", "administrator"])
@@ -142,7 +142,7 @@ CROWD = {
 
 def crowd_texts():
     """Statements that put a crowd into brick, where the ids are seven times a number, and three."""
-    tables = rows.Rows(rows.two(beginning().labs)).tables
+    tables = kept_rows.Rows(kept_rows.two(beginning().labs)).tables
 
     def id_of(table, **wanted):
         return next(row["id"] for row in tables[table] if wanted.items() <= row.items())
@@ -164,7 +164,7 @@ def a_record_is_opened_beside_a_crowd(s):
 
 def worked(name):
     s = copy.deepcopy(beginning())
-    (globals().get(name) or getattr(cases, name))(s)
+    (globals().get(name) or getattr(named_cases, name))(s)
     return s
 
 
@@ -218,10 +218,10 @@ def worked_row_texts():
 
 
 def rows_of(labs, begins):
-    both = rows.Rows(rows.two(labs), Id)
+    both = kept_rows.Rows(kept_rows.two(labs), Id)
     text = "//! The rows of two laboratories, by `tests/model/disked.py`. Each id is a number behind #.\n"
     # The rows of one stand in front of those of the other, in each table.
-    counts = {table: len(kept) for table, kept in rows.Rows([labs["brick"]]).tables.items()}
+    counts = {table: len(kept) for table, kept in kept_rows.Rows([labs["brick"]]).tables.items()}
     for lab in ("brick", "aqua"):
         tables = {table: kept[:counts[table]] if lab == "brick" else kept[counts[table]:] for table, kept in both.tables.items()}
         text += constant(f"{begins}{lab.upper()}_ROWS", "&str", literal("; ".join(statements(tables))), f"Those of {lab}.").replace("pub(crate)", "pub")
@@ -237,15 +237,15 @@ class Id(int):
 
 def statements(tables):
     for table, kept in tables.items():
-        names = ["id", *rows.COLUMNS[table].split()]
-        told = ", ".join(f"({', '.join(rows.literal(row.get(name)) for name in names)})" for row in kept)
+        names = ["id", *kept_rows.COLUMNS[table].split()]
+        told = ", ".join(f"({', '.join(kept_rows.literal(row.get(name)) for name in names)})" for row in kept)
         if kept:
             yield f"INSERT INTO {table} ({', '.join(names)}) VALUES {told}"
 
 
 def question_texts():
-    text = "//! What is asked of the tables, by `tests/model/rows.py`: of a laboratory, and how many rows.\n"
-    for name, questions in (("QUESTIONS", rows.QUESTIONS), ("COUNTS", rows.COUNTS)):
+    text = "//! What is asked of the tables, by `tests/model/kept_rows.py`: of a laboratory, and how many rows.\n"
+    for name, questions in (("QUESTIONS", kept_rows.QUESTIONS), ("COUNTS", kept_rows.COUNTS)):
         told = "".join(f"    {literal(one)},\n".replace("\n    ", "\n        ") for one in questions)
         text += constant(name, f"[&str; {len(questions)}]", "[\n" + told + "]")
     return text
@@ -256,19 +256,19 @@ def digest(told):
 
 
 def said(s, codes):
-    return digest(rows.all_told(s.labs, codes))
+    return digest(kept_rows.all_told(s.labs, codes))
 
 
 def event_texts():
     """What is asked by itself, over the laboratories as they begin."""
     text = "//! What is asked, each by itself, and its replies, by `tests/model/disked.py`.\nuse lab_tests_rows::Exchange;\n"
-    text += constant("ROWS_BEFORE", "&[u8; 64]", said(laboratories(), rows.CODES), "The digest of what the rows say as they are.")
+    text += constant("ROWS_BEFORE", "&[u8; 64]", said(laboratories(), kept_rows.CODES), "The digest of what the rows say as they are.")
     storage = reply_of(503, 100, laboratory.body(error="storage", number=63)).decode()
     text += constant("STORAGE_REPLY", "&[u8]", literal(storage, 'b"'), "The reply where the store refuses.")
     for name, part in STOPPED.items():
         s = played(part)
         text += constant(name, "Exchange", exchange(s.events[0], s.answers[0]))
-        text += constant(f"ROWS_AFTER_{name}", "&[u8; 64]", said(s, rows.CODES))
+        text += constant(f"ROWS_AFTER_{name}", "&[u8; 64]", said(s, kept_rows.CODES))
     return text + founding_texts()
 
 
@@ -276,8 +276,8 @@ def founding_texts():
     """A founding beside the laboratories as they begin, and a file in which there is none."""
     s = copy.deepcopy(laboratories())
     s.found(100, "cider", "Cider Lab", FOUNDERS)
-    text = founding_asked(s) + constant("ROWS_AFTER_FOUNDING", "&[u8; 64]", said(s, rows.CODES))
-    return text + constant("NO_ROWS", "&[u8; 64]", said(Stream(), rows.CODES), "The digest of what no rows say.")
+    text = founding_asked(s) + constant("ROWS_AFTER_FOUNDING", "&[u8; 64]", said(s, kept_rows.CODES))
+    return text + constant("NO_ROWS", "&[u8; 64]", said(Stream(), kept_rows.CODES), "The digest of what no rows say.")
 
 
 def founding_asked(s):

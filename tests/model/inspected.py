@@ -8,7 +8,7 @@ import csv
 import os
 import sys
 
-import rows
+import kept_rows
 from copied import played
 from laboratory import copy_rows
 
@@ -45,7 +45,7 @@ def main(words):
     path = os.path.join(folder, "laboratories")
     if os.path.exists(path):
         sys.exit(f"there is {path} already")
-    rows.write(path, rows.two(labs))
+    kept_rows.write(path, kept_rows.two(labs))
 
 
 if __name__ == "__main__":

@@ -1,5 +1,5 @@
 """Statements that make of a file of laboratories what the program never writes, or no file of laboratories at all, and what is told of
-it. The rows that are spoiled are those of tests/model/rows.py's `rich`, of aqua unless it is said otherwise.
+it. The rows that are spoiled are those of tests/model/kept_rows.py's `rich`, of aqua unless it is said otherwise.
 """
 LAB = "(SELECT id FROM labs WHERE code = 'aqua')"
 OTHER = "(SELECT id FROM labs WHERE code = 'brick')"

@@ -1,4 +1,4 @@
-"""Laboratories that somebody altered in their file, and what examples/check_file.py prints of each: of aqua of tests/model/rows.py after
+"""Laboratories that somebody altered in their file, and what examples/check_file.py prints of each: of aqua of tests/model/kept_rows.py after
 some hours. An alteration is a statement over the file; or it is done to the laboratory before its rows are written, and then each digest
 and each seal is computed anew and the trail is numbered anew, as somebody would who hides it. Beside them are copies that somebody altered
 in the same way, and what examples/check_copy.py remarks on each.
@@ -11,7 +11,7 @@ import io
 import sqlite3
 
 import laboratory
-import rows
+import kept_rows
 from laboratory import Thing
 
 GOOD = "good 3 4 4 6\n"
@@ -19,7 +19,7 @@ GOOD = "good 3 4 4 6\n"
 
 @functools.lru_cache(None)
 def begun():
-    return rows.rich().labs
+    return kept_rows.rich().labs
 
 
 def reseal(lab):
@@ -43,7 +43,7 @@ def write(path, alteration):
     if callable(alteration):
         alteration(labs["aqua"])
         reseal(labs["aqua"])
-    rows.write(path, rows.two(labs))
+    kept_rows.write(path, kept_rows.two(labs))
     if not callable(alteration):
         with contextlib.closing(sqlite3.connect(path)) as base:
             base.executescript(alteration)

@@ -1,4 +1,4 @@
-//! What is asked of the tables, by `tests/model/rows.py`: of a laboratory, and how many rows.
+//! What is asked of the tables, by `tests/model/kept_rows.py`: of a laboratory, and how many rows.
 
 pub(crate) static QUESTIONS: [&str; 13] = [
     "\

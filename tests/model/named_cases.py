@@ -2,10 +2,10 @@
 """Plays named cases through `labdesk replay`, and compares each answer whole, to the byte, with that of tests/model/laboratory.py, which
 follows the rules apart from the program, in the form of docs/HTTP.md.
 
-    tests/model/cases.py PROGRAM [NAME ..]   plays all cases, or these: a line for each, `ok ..` or `FAILED ..`
-    tests/model/cases.py PROGRAM --some      plays all that begin with foundings alone, and every fourth of the others
-    tests/model/cases.py --names             prints their names
-    tests/model/cases.py --events NAME       prints a case as `labdesk replay` reads it
+    tests/model/named_cases.py PROGRAM [NAME ..]   plays all cases, or these: a line for each, `ok ..` or `FAILED ..`
+    tests/model/named_cases.py PROGRAM --some      plays all that begin with foundings alone, and every fourth of the others
+    tests/model/named_cases.py --names             prints their names
+    tests/model/named_cases.py --events NAME       prints a case as `labdesk replay` reads it
 
 What a request should come to stands beside it, in `wants`: the number of a refusal, members of the reply, or its whole body; where
 nothing stands, any reply that is no refusal. A case is built only where the laboratory in Python answers so. Behind each case all
