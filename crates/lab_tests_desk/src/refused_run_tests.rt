@@ -1,6 +1,6 @@
 //! What foundings and requests get of a keeper that refuses, in a run and over connections.
 use crate::Moody;
-use crate::run_texts::{ANSWERS, BODY, CARD, CEDAR_CARD, NO_HEAD, OPEN, SERVED};
+use crate::refused_run_texts::{ANSWERS, BODY, CARD, CEDAR_CARD, NO_HEAD, OPEN, SERVED};
 use lab_desk::{Desk, Event, LabCode, Lists, Moment, RunFault, Series, ServeFault, Tick};
 use std::process::Abort;
 

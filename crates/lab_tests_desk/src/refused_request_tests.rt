@@ -1,6 +1,6 @@
 //! What requests get of a keeper that refuses, and what they leave.
 use crate::Moody;
-use crate::request_texts::{BODY, MEMORY_REPLY, OPEN, OPEN_REPLY, STORAGE_REPLY};
+use crate::refused_request_texts::{BODY, MEMORY_REPLY, OPEN, OPEN_REPLY, STORAGE_REPLY};
 use lab_desk::{Desk, LabCode, Lists, Moment, Tick};
 use std::process::Abort;
 
