@@ -5,7 +5,7 @@ ghost use Rattle.clap.specs.Words.{app_of, new_app, rule_of, with_rule};
 ghost use Rattle.lab_program_app.specs.Apps.{check_app, copy_app, count_rule, file_rule, found_app, lab_rule, migrate_app, moment_rule, named_rule, number_rule, port_rule, rehearse_app, replay_app, serve_app, wanted_rule, with_file_and_lab, with_old_and_new, with_port_and_count, with_range};
 
 use clap::{Arg, Command, value_parser};
-use lab_forms_texts::LAST_SECOND;
+use lab_forms_texts::{LAST_ORDINAL, LAST_SECOND};
 use std::alloc::{AllocError, Global};
 
 /// The help of `found`.
@@ -72,7 +72,7 @@ socket of this machine, at moment S, and prints the reply. The input is a JSON o
 const MOST_CONNECTIONS: i64 = 1_000_000_000;
 
 /// The greatest number of a record.
-const LAST_RECORD: i64 = 1_000_000_000;
+const LAST_RECORD: i64 = LAST_ORDINAL as i64;
 
 // ---- arguments
 
