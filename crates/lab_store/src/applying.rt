@@ -7,7 +7,9 @@ ghost use Rattle.sqlite.specs.State.{HasCleanDisk, IsUnchanged, KeepsCommit, Sur
 ghost use Rattle.lab_store_tables.specs.Changes.{InTurn};
 ghost use Rattle.lab_store_tables.specs.Ready.{IsAtRest, IsReady, LeavesNoMore};
 ghost use Rattle.lab_store_laws.specs.Steps.{StepsBy, AreMadeIfAny};
-ghost use Rattle.lab_store_write.specs.Calls.{Steps};
+ghost use Rattle.lab_store_write.specs.Calls.{FailsFor, Steps};
+ghost use Rattle.lab_store_write_changes.specs.Causes.{OneIsTooMuch};
+ghost use Rattle.lab_store.specs.Causes.{ChangesHaveTheirCause, TransactionHasItsCause};
 ghost use Rattle.lab_store.specs.Commits.{EndsStep};
 ghost use Rattle.lab_store.specs.Counting.{IsKeeping};
 
@@ -41,6 +43,8 @@ fn make_inside<S: Alter>(
         (state S.Store tx.old.conn.now) (state S.Store tx.new.conn.now) }
     ensures survives { Survives
         (state S.Store tx.old.conn.now) (state S.Store tx.new.conn.now) (λ _. ⊥) }
+    ensures failed { FailsFor (λ _. OneIsTooMuch changes.now) (state S.Store)
+        tx.old.conn.now tx.new.conn.now result }
 {
     let mut inside = Inside { tx };
     let made = all_inside(&mut inside, lab, changes);
@@ -57,6 +61,8 @@ fn commit_all<S: Alter>(
     requires at_rest { IsAtRest (state S.Store conn.old) }
     ensures ends { EndsStep (InTurn (StepsBy lab.id) changes.now) result
         (state S.Store conn.old) (state S.Store conn.new) }
+    ensures cause { TransactionHasItsCause S.Store (OneIsTooMuch changes.now)
+        conn.old conn.new result }
 {
     let _rules = conn.schema();
     let mut tx = conn.transaction();
@@ -92,6 +98,8 @@ pub fn apply<S: Alter>(
         LeavesNoMore (state S.Store tables.old.conn) (state S.Store tables.new.conn) }
     ensures same { changes.now ≡ [] → HasCleanDisk (state S.Store tables.new.conn) →
         OnOk result (IsUnchanged (state S.Store tables.old.conn) (state S.Store tables.new.conn)) }
+    ensures cause { ChangesHaveTheirCause S.Store code.now changes.now
+        tables.old.conn tables.new.conn result }
 {
     let found = lab_id_at(alloc, tables, counted, code)?;
     if changes.is_empty() {

@@ -5,6 +5,7 @@ ghost use Rattle.sqlite.specs.Held.{state};
 ghost use Rattle.sqlite.specs.State.{HasCleanDisk};
 ghost use Rattle.lab_records_keeper.specs.declared.faults.PlacingFault.TheVariants.{LabExists};
 ghost use Rattle.lab_store_tables.specs.Ready.{IsAtRest, IsReady};
+ghost use Rattle.lab_store.specs.Causes.{FoundingHasItsCause};
 ghost use Rattle.lab_store.specs.Commits.{EndsStep};
 ghost use Rattle.lab_store.specs.Founding.{IsPlacedBy, IsTaken};
 
@@ -39,6 +40,7 @@ pub fn found<S: Alter>(
         (state S.Store tables.old.conn) (state S.Store tables.new.conn) }
     ensures exists { result ≡ Err LabExists → IsReady (state S.Store tables.old.conn) →
         IsTaken newborn.code (state S.Store tables.old.conn) (state S.Store tables.new.conn) }
+    ensures cause { FoundingHasItsCause S.Store newborn tables.old.conn tables.new.conn result }
 {
     if is_there(tables, &newborn.code)? {
         return Err(PlacingFault::LabExists);

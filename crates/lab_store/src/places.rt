@@ -3,11 +3,15 @@
 ghost use Rattle.std.specs.Prelude.{◌≡◌, ◌≢◌, IfOk, IfErr, IsTrue, OnOk, find, is_some, slice_get};
 ghost use Rattle.sqlite.specs.Held.{state};
 ghost use Rattle.sqlite.specs.State.{HasCleanDisk, KeepsCommit, Survives};
-ghost use Rattle.lab_records_keeper.specs.declared.faults.PlacingFault.TheVariants.{LabExists};
+ghost use Rattle.lab_records_keeper.specs.declared.faults.PlacingFault.TheVariants.{LabExists, Storage};
 ghost use Rattle.lab_store_tables.specs.Meaning.{has_code};
-ghost use Rattle.lab_store_tables.specs.Ready.{IsAtRest};
+ghost use Rattle.lab_store_tables.specs.Ready.{IsAtRest, IsReady};
+ghost use Rattle.lab_store_read.specs.Causes.{IsCaused};
+ghost use Rattle.lab_store_read.specs.Cells.{storage};
 ghost use Rattle.lab_store_read.specs.Reads.{Reads};
-ghost use Rattle.lab_store_write.specs.Calls.{Steps};
+ghost use Rattle.lab_store_write.specs.Calls.{FailsFor, Steps};
+ghost use Rattle.lab_store_write.specs.Causes.{IsTooGreat};
+ghost use Rattle.lab_store.specs.Causes.{CommitHasItsCause, TransactionHasItsCause};
 ghost use Rattle.lab_store.specs.Commits.{EndsStep};
 ghost use Rattle.lab_store_write_changes.specs.NewbornRows.{AddsRows};
 
@@ -22,7 +26,8 @@ use sqlite::{Alter, Connection, Error, Row, Transaction};
 
 // The placing fault for a fault of the store.
 fn placing_fault(fault: ReadFault) -> PlacingFault
-    ensures { result ≢ LabExists }
+    ensures placing { result ≢ LabExists }
+    ensures told { result ≡ Storage → fault ≡ storage }
 {
     match fault {
         ReadFault::Refused(_) => PlacingFault::Storage,
@@ -44,6 +49,9 @@ pub(crate) fn is_there<D: Readable>(conn: &mut D, code: &LabCode) -> Result<bool
     ensures kept { HasCleanDisk (D.state conn.new) →
         KeepsCommit (D.state conn.old) (D.state conn.new) }
     ensures fault { IfErr result (λ fault. fault ≢ LabExists) }
+    ensures limit { (D.state conn.new).step_limit ≡ (D.state conn.old).step_limit }
+    ensures cause { IsReady (D.state conn.old) → HasCleanDisk (D.state conn.new) →
+        IfErr result (λ fault. fault ≡ Storage → IsCaused (D.state conn.old) (D.state conn.new)) }
 {
     match lab_rows(conn, code.as_str()) {
         Ok(rows) => Ok(has_row(&rows)),
@@ -62,6 +70,8 @@ fn add_inside<S: Alter>(tx: &mut Transaction<'_, S>, lab: &Lab) -> Result<(), Er
         (state S.Store tx.old.conn.now) (state S.Store tx.new.conn.now) }
     ensures survives { Survives
         (state S.Store tx.old.conn.now) (state S.Store tx.new.conn.now) (λ _. ⊥) }
+    ensures failed { FailsFor (λ _. IsTooGreat lab.now.strays) (state S.Store)
+        tx.old.conn.now tx.new.conn.now result }
 {
     let mut inside = Inside { tx };
     let made = add_rows(&mut inside, lab);
@@ -74,6 +84,8 @@ fn commit_rows<S: Alter>(conn: &mut Connection<S>, lab: &Lab) -> Result<(), Erro
     requires at_rest { IsAtRest (state S.Store conn.old) }
     ensures ends { EndsStep (AddsRows lab.now) result
         (state S.Store conn.old) (state S.Store conn.new) }
+    ensures cause { TransactionHasItsCause S.Store (IsTooGreat lab.now.strays)
+        conn.old conn.new result }
 {
     let mut tx = conn.transaction();
     add_inside(&mut tx, lab)?;
@@ -86,6 +98,8 @@ pub(crate) fn place<S: Alter>(conn: &mut Connection<S>, lab: &Lab) -> Result<(),
     ensures ends { EndsStep (AddsRows lab.now) result
         (state S.Store conn.old) (state S.Store conn.new) }
     ensures fault { IfErr result (λ fault. fault ≢ LabExists) }
+    ensures cause { CommitHasItsCause S.Store (λ fault. fault ≡ Storage) (λ t. Unit {0})
+        (λ t. IsTooGreat lab.now.strays) conn.old conn.new result }
 {
     match commit_rows(conn, lab) {
         Ok(()) => Ok(()),

@@ -3,8 +3,10 @@
 ghost use Rattle.std.specs.Prelude.{◌≡◌, Some, IfSome, IsTrue, OnOk, length};
 ghost use Rattle.sqlite.specs.State.{HasCleanDisk};
 ghost use Rattle.lab_store_tables.specs.Meaning.{persons_of};
-ghost use Rattle.lab_store_read.specs.Causes.{HasItsCause};
+ghost use Rattle.lab_store_read.specs.Causes.{HasFirst, HasItsCause};
 ghost use Rattle.lab_store_read.specs.Reads.{Reads, MayRead};
+ghost use Rattle.lab_store_read_records.specs.Readable.{HasLab};
+ghost use Rattle.lab_store_read_records.specs.Shown.{labs_shown};
 ghost use Rattle.lab_store_load.specs.Counts.{IsCounted, IsOpenIn, lab_id_of};
 
 use lab_forms_texts::LabCode;
@@ -65,6 +67,8 @@ fn lab_id<D: Readable>(
 ) -> Result<Option<i64>, ReadFault>
     ensures reads { Reads (λ t id. id ≡ lab_id_of t code.now)
         (D.state conn.old) (D.state conn.new) result }
+    ensures cause { HasItsCause (λ t. HasFirst HasLab (labs_shown t code.now))
+        (D.state conn.old) (D.state conn.new) result }
 {
     let found = lab_at(alloc, conn, code)?;
     match found {
@@ -82,6 +86,8 @@ fn lab_id_after<D: Readable>(
     code: &LabCode,
 ) -> Result<Option<i64>, ReadFault>
     ensures reads { MayRead (λ t id. IsCounted t counted.now → id ≡ lab_id_of t code.now)
+        (D.state conn.old) (D.state conn.new) result }
+    ensures cause { HasItsCause (λ t. HasFirst HasLab (labs_shown t code.now))
         (D.state conn.old) (D.state conn.new) result }
 {
     if counted.code.as_str() == code.as_str() {
@@ -102,6 +108,8 @@ pub fn lab_id_at<D: Readable>(
     code: &LabCode,
 ) -> Result<Option<i64>, ReadFault>
     ensures reads { MayRead (λ t id. IfSome counted.now (IsCounted t) → id ≡ lab_id_of t code.now)
+        (D.state conn.old) (D.state conn.new) result }
+    ensures cause { HasItsCause (λ t. HasFirst HasLab (labs_shown t code.now))
         (D.state conn.old) (D.state conn.new) result }
     // If the connection is open whenever something was counted: a connection that answers is open,
     // even if nothing is looked up.

@@ -1,9 +1,15 @@
-use Rattle.std.proofs.Common.{w64, to_z, of_z, SFits, IsTrue, rules, sym, ◌∙◌}
+use Rattle.std.proofs.Common.{inl, inr, Err, w64, to_z, of_z, SFits, IsTrue, rules, sym, ◌∙◌}
 use Rattle.std.proofs.lemmas.Int.{to_z-of_z}
 use Rattle.sqlite.specs.Held.{state}
 use Rattle.sqlite.specs.State.{HasCleanDisk}
 use Rattle.lab_forms_texts.specs.declared.refusals.Fault.{Fault}
 use Rattle.lab_records_keeper.specs.declared.faults.BadStore.{BadStore}
+use Rattle.lab_store_write_changes.specs.Causes.{OneIsTooMuch}
+use Rattle.lab_store_read.specs.Causes.{HasFirst}
+use Rattle.lab_store_read_records.specs.Readable.{HasLab}
+use Rattle.lab_store_read_records.specs.Shown.{labs_shown}
+use Rattle.lab_store.specs.Causes.{RefusesChanges}
+use Rattle.lab_store.proofs.Causes.{isnt_memory, told_after, told_as}
 use Rattle.lab_store.proofs.After.{ends_ok, ends_err, found_row, counted_now}
 use Rattle.lab_store.proofs.applying.apply.Goals as goal
 
@@ -34,3 +40,25 @@ returns-in-Err-clause-ends g c ready =
     (λ clean. let row = found_row _ c.in-Some.id (sym c.in-Some.is ∙ reads.answer ready clean (counted_now old c.args.counted.now keeping ready (reads.passes.clean clean) (opened clean))) in
     (row.0, row.1, row.2 ∙ sym (to_z-of_z w64 c.in-Some.id fits)))
     _ c.in-Err.error c.read_fault.result c.in-Err.ensures.ends
+
+pub returns-in_default-clause-cause : goal.returns-in_default-clause-cause
+returns-in_default-clause-cause g c =
+    let keeping = c.requires.keeping in
+    let old = state g.S.Store c.args.tables.now.conn in
+    let it = c.in_ok-found.ensures in
+    record {
+      limit = it.cause.limit;
+      cause = λ ready clean readable told.
+          let is = it.reads.answer ready clean (counted_now old c.args.counted.now keeping ready (it.reads.passes.clean clean) (it.opened keeping.opened clean)) in
+          inr (inl (inl (sym is ∙ c.in_default.is, λ none. absurd (let filled = rw none at (sym c.is_empty.ensures ∙ c.if-is_empty.false) in cc))));
+    }
+
+pub returns-in-Err-clause-cause : goal.returns-in-Err-clause-cause
+returns-in-Err-clause-cause g c =
+    let it = c.in_ok-found.ensures in
+    let changes = c.args.changes.now in
+    let code = c.args.code.now in
+    told_after g.S.Store (λ t. OneIsTooMuch changes) (RefusesChanges code changes) c.args.tables.now.conn c.lab_id_at.new.conn.conn c.commit_all.new.conn it.reads.passes
+    (λ clean. it.reads.same clean (it.opened c.requires.keeping.opened clean)) it.cause.limit c.in-Err.ensures.ends.clean (λ much. inr much)
+    (λ t. HasFirst HasLab (labs_shown t code)) (Err c.read_fault.result)
+    (told_as g.S.Store c.in-Err.error c.read_fault.result (λ told. isnt_memory c.in-Err.error (sym c.read_fault.ensures ∙ told)) c.in-Err.ensures.cause)

@@ -1,4 +1,4 @@
-use Rattle.std.proofs.Common.{◌≡◌, true, Option, Some, None, option_map, find, is_some, refl, sym, ◌∙◌, subst}
+use Rattle.std.proofs.Common.{◌≡◌, true, IsTrue, ap, arith, Option, Some, None, option_map, find, is_some, refl, sym, ◌∙◌, subst}
 use Rattle.sqlite.specs.Held.{state}
 use Rattle.lab_records_kept.specs.declared.labs.Lab.{Lab}
 use Rattle.lab_records_kept.specs.Births.{newborn_lab}
@@ -7,6 +7,9 @@ use Rattle.lab_store_tables.specs.Ready.{tables_of}
 use Rattle.lab_store.specs.Commits.{EndsStep}
 use Rattle.lab_store_write_changes.specs.NewbornRows.{AddsRows}
 use Rattle.lab_store.specs.Founding.{IsPlacedBy}
+use Rattle.lab_store_write.specs.Causes.{IsTooGreat}
+use Rattle.lab_store_write_changes.specs.Newborns.{is_asked}
+use Rattle.lab_store.proofs.Causes.{told_after}
 use Rattle.lab_store.proofs.Endings.{ends_after, none_found}
 use Rattle.lab_store.proofs.Placed.{is_placed}
 use Rattle.lab_store.proofs.founding.found.Goals as goal
@@ -38,3 +41,11 @@ returns-then-branch-clause-exists g c is ready =
       was_open = λ clean. (it.same clean).0.was_open;
       is_open = λ clean. (it.same clean).0.is_open;
     }
+
+pub returns-clause-cause : goal.returns-clause-cause
+returns-clause-cause g c =
+    let there = c.in_ok-is_there.ensures in
+    let newborn = c.args.newborn in
+    let none : c.in_ok-lab.lab.strays ≡ 0 = ap (λ (lab : Lab). lab.strays) c.in_ok-lab.ensures in
+    told_after g.S.Store (λ t. IsTooGreat c.in_ok-lab.lab.strays) (λ t. IsTrue (is_asked newborn)) c.args.tables.now.conn c.is_there.new.conn.conn c.place.new.conn there.reads.passes
+    there.reads.same there.limit c.place.ensures.ends.clean (λ great. absurd (omega (arith, great, none))) (λ t. Unit {0}) c.place.result c.place.ensures.cause

@@ -1,0 +1,76 @@
+-- Why a call that commits tells of the store: in its transaction the last statement was refused, or
+-- names a row that isn't there. Else the disk had a fault in the call, the connection was shut
+-- before it, or its steps have a limit; or the call is given what no store takes, which is named
+-- beside.
+use Rattle.std.specs.Prelude.{◌≡◌, ◌≢◌, ◌⊎◌, ℕ, List, [], None, Result, IfErr, IsFalse, IsTrue}
+use Rattle.sqlite_trees.specs.declared.store.Store.{Ghosts}
+use Rattle.sqlite.specs.declared.error.Error.{Error}
+use Rattle.sqlite.specs.Held.{Held, state}
+use Rattle.sqlite.specs.State.{HasCleanDisk, IsRolledBack}
+use Rattle.lab_forms_texts.specs.declared.refusals.Fault.{Fault}
+use Rattle.lab_records_keeper.specs.declared.faults.BadStore.{BadStore}
+use Rattle.lab_records_keeper.specs.declared.faults.PlacingFault.{PlacingFault}
+use Rattle.lab_records_keeper.specs.declared.faults.PlacingFault.TheVariants.{Storage}
+use Rattle.lab_records_kept.specs.declared.births.Newborn.{Newborn}
+use Rattle.lab_records_kept.specs.declared.changes.Change.{Change}
+use Rattle.lab_store_tables.specs.Rows.{Tables}
+use Rattle.lab_store_tables.specs.Ready.{IsReady, tables_of}
+use Rattle.lab_store_read.specs.Causes.{HasFirst, IsCaused}
+use Rattle.lab_store_read.specs.Cells.{storage}
+use Rattle.lab_store_read.specs.Faults.{is_out_of_memory}
+use Rattle.lab_store_read_records.specs.Readable.{HasLab}
+use Rattle.lab_store_read_records.specs.Shown.{labs_shown}
+use Rattle.lab_store_load.specs.Counts.{lab_id_of}
+use Rattle.lab_store_write.specs.Causes.{EndsBy}
+use Rattle.lab_store_write_changes.specs.Causes.{OneIsTooMuch}
+use Rattle.lab_store_write_changes.specs.Newborns.{is_asked}
+
+-- a transaction over the rows that were shown ended by its last statement, and not for want of
+-- memory; it was then undone
+pub record FailsInside {S : Type 0} (g : Ghosts S) (old new : Held S) : Type 0 where
+  -- the transaction as it began, and as that statement left it
+  pub begun : Held S
+  pub last : Held S
+  pub inside : IsTrue (state g begun).in_transaction
+  pub rows : (state g begun).now ≡ (state g old).now
+  pub error : Error
+  pub told : IsFalse (is_out_of_memory error)
+  pub ends : EndsBy (state g) begun last error
+  pub undone : IsRolledBack (state g last) (state g new)
+
+-- a call that commits tells of the store for no other cause, or for what is refused of the tables,
+-- where what it reads of them is readable
+pub record CommitHasItsCause {S T E : Type 0} (g : Ghosts S) (IsTold : E → Type 0)
+    (Readable Refused : Tables → Type 0) (old new : Held S) (result : Result T E) : Type 0 where
+  pub limit : (state g new).step_limit ≡ (state g old).step_limit
+  pub cause : IsReady (state g old) → HasCleanDisk (state g new)
+      → Readable (tables_of (state g old))
+      → IfErr result (λ fault. IsTold fault → IsCaused (state g old) (state g new)
+      ⊎ (Refused (tables_of (state g old)) ⊎ FailsInside g old new))
+
+-- so does one inside whose transaction nothing is read, of which an error is told that isn't want
+-- of memory
+abbrev pub TransactionHasItsCause : {S T : Type 0} → Ghosts S → Type 0 → Held S → Held S
+    → Result T Error → Type 0
+TransactionHasItsCause g Beside old new result =
+    CommitHasItsCause g (λ e. IsFalse (is_out_of_memory e)) (λ t. Unit {0}) (λ t. Beside)
+    old new result
+
+-- changes are refused where no laboratory has the code, or for a number that no column holds
+abbrev pub RefusesChanges : List ℕ → List Change → Tables → Type 0
+RefusesChanges code changes t =
+    ((lab_id_of t code ≡ None) × (changes ≢ [])) ⊎ OneIsTooMuch changes
+
+-- changes of a laboratory, whose row is readable
+abbrev pub ChangesHaveTheirCause : {S T : Type 0} → Ghosts S → List ℕ → List Change → Held S
+    → Held S → Result T (Fault BadStore) → Type 0
+ChangesHaveTheirCause g code changes old new result =
+    CommitHasItsCause g (λ fault. fault ≡ storage) (λ t. HasFirst HasLab (labs_shown t code))
+    (RefusesChanges code changes) old new result
+
+-- a founding, which is refused for founders for whom a one-time word was asked
+abbrev pub FoundingHasItsCause : {S T : Type 0} → Ghosts S → Newborn → Held S → Held S
+    → Result T PlacingFault → Type 0
+FoundingHasItsCause g newborn old new result =
+    CommitHasItsCause g (λ fault. fault ≡ Storage) (λ t. Unit {0})
+    (λ t. IsTrue (is_asked newborn)) old new result
