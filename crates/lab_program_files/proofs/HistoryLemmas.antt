@@ -8,13 +8,12 @@ use Rattle.sqlite_trees.specs.Tree.{Trees}
 use Rattle.sqlite_schema.specs.Names.{same_name}
 use Rattle.sqlite_schema.specs.declared.schema.Schema.{Schema}
 use Rattle.sqlite_store.specs.declared.store.FileStore.{FileStore}
-use Rattle.sqlite_store.specs.FileStore.{state as pages_of}
+use Rattle.sqlite_wal.proofs.LogLemmas.{SeenMayStay}
 use Rattle.sqlite.specs.Effect.{Database}
 use Rattle.sqlite.specs.Files.{file_state, over_files}
 use Rattle.sqlite.specs.Held.{Held}
 use Rattle.sqlite.specs.Start.{FindsIn}
 use Rattle.sqlite.specs.State.{HasCleanDisk, State}
-use Rattle.sqlite.proofs.Theorems.{next_run}
 use Rattle.lab_records_kept.specs.declared.labs.Lab.{Lab}
 use Rattle.lab_records_kept.specs.Limits.{IsWithin}
 use Rattle.lab_records_keeper.specs.Worlds.{Meaning, Passes, SameMeaning}
@@ -37,6 +36,7 @@ use Rattle.lab_program_opening.specs.Files.{AreHeldIn, IsFound, IsOpened, IsOurs
 use Rattle.lab_program_files.specs.FileWorlds.{file_world}
 use Rattle.lab_program_files.specs.Histories.{AreDone, AreEventsOf, AreStartsOf, Begins, Copied, Does, Founded, GoesOnAlone, IsDone, IsHistory, IsStartOf, IsTaskRun, Moved, Refused, Reopens, Served, Task, Work, founding_refused, last_of, world_left, world_opened}
 use Rattle.lab_program_files.specs.Starts.{IsRunOver, founding_answered, start_of}
+use Rattle.lab_program_files.proofs.StopLemmas.{stop_left}
 use Rattle.lab_program_files.proofs.StartLemmas.{answered_so, blank_refused, copied_over, found_blank, founded_over, moved_over, refused_over, served_over, stopped_so}
 
 -- ---- a task is a run
@@ -158,8 +158,8 @@ record IsNextFound {D : Type 0} {g : DiskOf D} (work next : Work D g) : Type 0 w
   may : (world_left work).may_leave (world_opened next).meaning
   ready : StandsReady next
 
-module _ {D : Type 0} {g : DiskOf D} (work next : Work D g) (ready : StandsReady work)
-    (run : IsTaskRun work) (reopens : Reopens work next)
+module _ {D : Type 0} {g : DiskOf D} (stays : SeenMayStay g) (work next : Work D g)
+    (ready : StandsReady work) (run : IsTaskRun work) (reopens : Reopens work next)
     (clean : HasCleanDisk (file_state next.opened)) where
   -- a crash at the stop leaves laboratories of which this holds, where it held of those that were
   -- found
@@ -229,15 +229,7 @@ module _ {D : Type 0} {g : DiskOf D} (work next : Work D g) (ready : StandsReady
       ∥ (file_state work.last).may_leave was.committed.trees ∥₁
   left_to was found =
       let leaves = reopens.leaves in
-      elim leaves.so [
-        | inl same ↦ next_run work.last.store (leaves.connected.numbered leaves.honest)
-            (leaves.connected.found leaves.honest) next.held
-            (subst (λ (it : FileStore D g). (pages_of it).may_leave next.held) same leaves.may) was
-            found
-        | inr shut ↦ ∥∥₁_map (next_run leaves.stopped shut.numbered (shut.is.sound shut.clean)
-            next.held leaves.may was found)
-            (λ left. shut.is.quiet.outcomes was.committed.trees left)
-      ]
+      stop_left stays work.last leaves.connected leaves.honest next.held leaves.may was found
 
   ours_found : IsOursFrom over_files reopens.found next.opened → ∥ IsNextFound work next ∥₁
   ours_found ours =
@@ -325,19 +317,19 @@ opened_clean : {D : Type 0} {g : DiskOf D} (work : Work D g) (others : List (Wor
 opened_clean work [] done honest = done.passes.honest honest
 opened_clean work (next ∷ others) done honest = done.0.passes.honest done.1.leaves.honest
 
-from_here : {D : Type 0} {g : DiskOf D} (work : Work D g) (others : List (Work D g))
+from_here : {D : Type 0} {g : DiskOf D} (stays : SeenMayStay g) (work : Work D g) (others : List (Work D g))
     (left : Meaning) → StandsReady work → AreDone work others →
     HasCleanDisk (file_state (last_of work others).last) →
     (world_left (last_of work others)).may_leave left → ∥ FromHere work others left ∥₁
-from_here work [] left ready done honest may =
+from_here stays work [] left ready done honest may =
     let run = work_run work done ready.live (λ live. ready.within) honest ready.reached in
     ∣ end_here work left ready run may ∣₁
-from_here work (next ∷ others) left ready done honest may =
+from_here stays work (next ∷ others) left ready done honest may =
     let run = work_run work done.0 ready.live (λ live. ready.within) done.1.leaves.honest
     ready.reached in
-    ∥∥₁_elim (next_found work next ready run done.1 (opened_clean next others done.2 honest))
+    ∥∥₁_elim (next_found stays work next ready run done.1 (opened_clean next others done.2 honest))
     squash₁
-    (λ found. ∥∥₁_map (from_here next others left found.ready done.2 honest may)
+    (λ found. ∥∥₁_map (from_here stays next others left found.ready done.2 honest may)
     (λ rest. go_here work next others left ready run found rest))
 
 -- ---- a whole history
@@ -373,10 +365,10 @@ alone_from first work others left found from =
       releasing = from.releasing;
     }
 
-pub goes_on_alone : {D : Type 0} {g : DiskOf D} (first : Meaning) (work : Work D g)
-    (others : List (Work D g)) (left : Meaning) → IsHistory first work others left →
-    ∥ GoesOnAlone first (work ∷ others) left ∥₁
-goes_on_alone first work others left history =
-    ∥∥₁_map (from_here work others left (begins_ready first work history.begins) history.done
+pub goes_on_alone : {D : Type 0} {g : DiskOf D} (stays : SeenMayStay g) (first : Meaning)
+    (work : Work D g) (others : List (Work D g)) (left : Meaning) →
+    IsHistory first work others left → ∥ GoesOnAlone first (work ∷ others) left ∥₁
+goes_on_alone stays first work others left history =
+    ∥∥₁_map (from_here stays work others left (begins_ready first work history.begins) history.done
     history.honest history.may)
     (λ from. alone_from first work others left history.begins.found from)

@@ -3,3 +3,4 @@ pub mod HistoryLemmas
 pub mod KnownValues
 pub mod ServingLemmas
 pub mod StartLemmas
+pub mod StopLemmas

@@ -1,5 +1,5 @@
 -- The inspection copy of a laboratory of a file (21 CFR 11.10(b); docs/COPIES.md has its text).
-use Rattle.std.specs.Prelude.{◌≡◌, ℕ, List, [], ◌∷◌, Option, None, Result, IfErr, IfOk, IsSome}
+use Rattle.std.specs.Prelude.{◌≡◌, ℕ, List, [], ◌∷◌, Option, Some, None, Result, IfErr, IfOk, IsSome}
 use Rattle.std.specs.Io.KnownBytes.{Keeps}
 use Rattle.lab_records_keeper.specs.declared.keeper.Keeper.{Ghosts}
 use Rattle.lab_records_keeper.specs.Worlds.{Given}
@@ -45,6 +45,10 @@ module _ {S : Type 0} (keeper : Ghosts S) (task : CopyTask) (opened : S → Type
         (Given (keeper.world old) (keeper.world new)
         (IsSome ((keeper.world old).meaning task.code))))
     pub read : IsOnlyRead keeper.world keeper.rests old new
+
+  -- so it was; and what is left to be closed is the keeper as the copy left it
+  abbrev pub CopiesTo : Result (Unit {0}) CopyOutFault → Option S → Type 0
+  CopiesTo ending finished = (copies : Copies ending) × (finished ≡ Some copies.new)
 
 -- the task `copy`, by its status and what was told: where the file wasn't opened or the clock
 -- failed, nothing went out

@@ -1,14 +1,13 @@
 -- An installation's history: tasks over one file, one after the other, each of which finds what a
--- crash at the stop before it may have left; and what is true over all of it (21 CFR 11.10(a) and
--- (c); ISO/IEC 17025:2017, 7.11.3(c), "be protected from unauthorized access", and (e), "system
--- failures").
-use Rattle.std.specs.Prelude.{◌≡◌, ◌⊎◌, ℕ, List, [], ◌∷◌, All, IsTrue}
+-- crash at the stop before it may have left, or its close; and what is true over all of it (21 CFR
+-- 11.10(a) and (c); ISO/IEC 17025:2017, 7.11.3(c), "be protected from unauthorized access", and
+-- (e), "system failures").
+use Rattle.std.specs.Prelude.{◌≡◌, ◌⊎◌, ℕ, List, [], ◌∷◌, All}
 use Rattle.sqlite_disk.specs.declared.Disk.{Ghosts as DiskOf}
 use Rattle.sqlite_wal.specs.Recovery.{Image}
-use Rattle.sqlite_trees.specs.View.{IsClean}
 use Rattle.sqlite_store.specs.declared.store.FileStore.{FileStore}
-use Rattle.sqlite_store.specs.FileStore.{recovers, state as pages_of, view}
-use Rattle.sqlite.specs.Files.{IsClosed, file_state, over_files}
+use Rattle.sqlite_store.specs.FileStore.{recovers, view}
+use Rattle.sqlite.specs.Files.{file_state, over_files}
 use Rattle.sqlite.specs.Held.{Held, IsConnected}
 use Rattle.sqlite.specs.State.{HasCleanDisk}
 use Rattle.lab_forms_texts.specs.declared.tick.Tick.{Tick}
@@ -30,6 +29,7 @@ use Rattle.lab_program_serve.specs.Visits.{AreVisits, GoesOn, Visit}
 use Rattle.lab_program_files.specs.FileWorlds.{file_keeper, file_rests, file_world}
 use Rattle.lab_program_files.specs.Foundings.{IsFoundedAt, IsRefusedAt}
 use Rattle.lab_program_files.specs.Starts.{IsRunOver, founding_answered}
+use Rattle.lab_program_files.specs.Stops.{Lies}
 
 -- ---- a task
 
@@ -117,24 +117,14 @@ module _ {D : Type 0} {g : DiskOf D} where
     pub within : OfAll IsWithin first
     pub releasing : OfAll IsReleasing first
 
-  -- the connection was closed, without a fault of the disk: what the kit says of its close (`close`
-  -- of a connection over files), which copies the log into the file
-  pub record IsShut (last : Held (FileStore D g)) (closed : FileStore D g) : Type 0 where
-    pub is : IsClosed last closed
-    pub clean : IsClean (view closed)
-    pub numbered : IsTrue (view closed).is_numbered
-
-  -- what a stop leaves to the next opening: the store as the task left it, or as it was closed.
   -- `may` is the premise on the path and on the bytes that are supposed to lie there: the file and
-  -- its log hold some that a crash at the stop may have left, which fails where another program
-  -- wrote them, or the disk lost what it had synchronized. `connected` is true of each connection
+  -- its log hold some that the stop may have left, which fails where another program wrote them, or
+  -- the disk lost what it had synchronized. `connected` is true of each connection
   pub record Leaves (work : Work D g) (held : Image) : Type 0 where
     pub honest : HasCleanDisk (file_state work.last)
     pub connected : IsConnected (view work.last.store) (recovers work.last.store) work.last.schema
         work.last.saved work.last.in_transaction
-    pub stopped : FileStore D g
-    pub so : (stopped ≡ work.last.store) ⊎ IsShut work.last stopped
-    pub may : (pages_of stopped).may_leave held
+    pub may : Lies work.last held
 
   -- the next task opened it, by `open_file` or `make_file`; and the text of the schema that it
   -- found is the schema's text, which fails where another program changed a table

@@ -3,4 +3,5 @@ pub mod Foundings
 pub mod Copying
 pub mod Serving
 pub mod Starts
+pub mod Stops
 pub mod Histories

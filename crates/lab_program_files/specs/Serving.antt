@@ -1,5 +1,5 @@
 -- Serving the laboratories of a file.
-use Rattle.std.specs.Prelude.{◌⊎◌, ℕ, Some}
+use Rattle.std.specs.Prelude.{◌≡◌, ◌⊎◌, ℕ, Option, Some, None, option_map, IfSome}
 use Rattle.std.specs.Io.KnownBytes.{Keeps}
 use Rattle.lab_records_keeper.specs.declared.keeper.Keeper.{Ghosts}
 use Rattle.lab_desk.specs.Desk.{Served}
@@ -14,10 +14,14 @@ module _ {S : Type 0} (keeper : Ghosts S) (found opened : S → Type 0) (drawing
     (count : ℕ) (end : TaskEnd) where
   -- from the keeper of the file that was found on so many connections were served, unless a fault
   -- came, which was told; over each keeper that was opened each laboratory stays within its limits
-  -- and has all that was recorded
+  -- and has all that was recorded; and this one is left to be closed
+  abbrev pub ServesTo : Option S → Type 0
+  ServesTo finished = (first : Served S) × (left : Option (Served S)) × found first.keeper
+      × IsServing keeper opened (Some first) left drawing count end
+      × (finished ≡ option_map (λ desk. desk.keeper) left)
+
   abbrev pub Serves : Type 0
-  Serves = (first : Served S) × found first.keeper
-      × IsServing keeper opened (Some first) drawing count end
+  Serves = (finished : Option S) × ServesTo finished
 
   -- nothing was served, and why was told: the file wasn't opened, or memory ran out
   abbrev pub DeclinesToServe : Type 0
@@ -31,3 +35,9 @@ module _ {S : Type 0} (keeper : Ghosts S) (found opened : S → Type 0) (drawing
 
   abbrev pub ServesFile : Type 0
   ServesFile = Serves ⊎ DeclinesToServe ⊎ DeclinesToListen
+
+  -- so it ended, by what is left to be closed: where no port was listened at, it is the keeper that
+  -- was found, if any was
+  abbrev pub ServesAs : Option S → Type 0
+  ServesAs finished = ServesTo finished ⊎ (DeclinesToServe × (finished ≡ None))
+      ⊎ (DeclinesToListen × IfSome finished found)

@@ -1,17 +1,16 @@
 //! `labdesk copy`: the inspection copy of a laboratory of a file.
 
-ghost use Rattle.std.specs.Prelude.{IfErr, IfOk};
+ghost use Rattle.std.specs.Prelude.{IfErr, IfOk, IfSome};
 ghost use Rattle.std.specs.Io.KnownBytes.{Keeps};
-ghost use Rattle.lab_program_files.specs.Copying.{Copies, IsCopying};
+ghost use Rattle.lab_program_files.specs.Copying.{CopiesTo, IsCopying};
 ghost use Rattle.lab_program_files.specs.FileWorlds.{file_keeper};
 ghost use Rattle.lab_program_opening.specs.Files.{IsOurs};
 
-use crate::leaving::leave;
 use lab_forms_streams::WriteFault;
 use lab_forms_texts::{LabCode, Ordinal};
 use lab_program_host::{Clock, Host};
 use lab_program_opening::{
-    Closing, OpenFault, Trouble, Volume, decline, decline_to_open, open_file,
+    Closing, Ended, Finished, OpenFault, Trouble, Volume, decline, decline_to_open, open_file,
 };
 use lab_records_copy_out::{CopyOutFault, Progress, copy_out};
 use lab_store::{OneVersionAtATime, Store};
@@ -19,7 +18,7 @@ use sqlite::Connection;
 use std::io::Write;
 
 // Copies the records of a laboratory of the file at the path, as of a moment of the clock. Answers
-// how the copy ended, where one was begun.
+// how the copy ended, where one was begun, and the connection, which is left to be closed.
 fn copy_file<N, H: Volume, C: Clock, X, P: Progress, W: Write>(
     host: &mut Host<'_, N, H, C, X, P>,
     path: &str,
@@ -27,25 +26,39 @@ fn copy_file<N, H: Volume, C: Clock, X, P: Progress, W: Write>(
     from: Ordinal,
     to: Ordinal,
     output: &mut W,
-) -> Result<Result<(), CopyOutFault>, OpenFault>
+) -> Ended<Result<Result<(), CopyOutFault>, OpenFault>, H::Disk>
 where
     Connection<H::Disk>: Closing,
-    ensures copies { IfOk result (Copies (file_keeper H.Disk.Store) (record {
+    ensures copies { IfOk result.ending (λ ending. CopiesTo (file_keeper H.Disk.Store) (record {
       moments = C.coming host.old.clock;
       later = C.coming host.new.clock;
       code = lab.now;
       from = from;
       to = to;
     }) (IsOurs H.Disk.Store (H.holds host.old.volume path.now))
-        (W.contents output.old) (W.contents output.new)) }
-    ensures unbegun { IfErr result (λ _. Keeps (W.contents output.old) (W.contents output.new)) }
+        (W.contents output.old) (W.contents output.new) ending result.finished) }
+    ensures unbegun { IfErr result.ending
+        (λ _. Keeps (W.contents output.old) (W.contents output.new)) }
+    ensures untouched { IfErr result.ending (λ _. IfSome result.finished
+        (IsOurs H.Disk.Store (H.holds host.old.volume path.now))) }
 {
-    let conn = open_file(host.alloc, &mut host.volume, path)?;
+    let conn = match open_file(host.alloc, &mut host.volume, path) {
+        Ok(conn) => conn,
+        Err(fault) => {
+            return Ended {
+                ending: Err(fault),
+                finished: None,
+            };
+        }
+    };
     let Ok(moment) = host.clock.moment() else {
-        return Err(OpenFault::Drawing);
+        return Ended {
+            ending: Err(OpenFault::Drawing),
+            finished: Some(Finished::new(conn)),
+        };
     };
     let mut store = Store::new(host.alloc, conn);
-    let copied = copy_out(
+    let ending = copy_out(
         host.alloc,
         &mut store,
         &OneVersionAtATime,
@@ -56,8 +69,11 @@ where
         output,
         &mut host.progress,
     );
-    leave(store);
-    Ok(copied)
+    let left = store.into_connection();
+    Ended {
+        ending: Ok(ending),
+        finished: Some(Finished::new(left)),
+    }
 }
 
 /// `labdesk copy`: opens the file at the path, writes the inspection copy of the laboratory's
@@ -92,7 +108,7 @@ where
       status = result;
     }) }
 {
-    match copy_file(host, path, lab, from, to, output) {
+    match copy_file(host, path, lab, from, to, output).close() {
         Ok(Ok(())) => Ok(0),
         Ok(Err(fault)) => {
             let trouble = Trouble::Copying(path, fault);

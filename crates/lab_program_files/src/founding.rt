@@ -3,21 +3,21 @@
 ghost use Rattle.lab_desk_foundings.specs.Foundings.{founded_line};
 ghost use Rattle.lab_program_files.specs.FileWorlds.{file_keeper};
 ghost use Rattle.lab_program_opening.specs.Files.{IsOpened};
-ghost use Rattle.lab_program_files.specs.Foundings.{Ends, EndsOver, IsFounding, Prints};
+ghost use Rattle.lab_program_files.specs.Foundings.{Ends, EndsAs, IsFounding, Prints};
 ghost use Rattle.lab_program_host.specs.Faults.{IsReaderFault};
 ghost use Rattle.lab_program_host.specs.Sources.{IsDrawn, drawing_of};
 ghost use Rattle.std.specs.Io.KnownBytes.{Keeps};
-ghost use Rattle.std.specs.Prelude.{◌≡◌, IfErr, IfOk, IfSome};
+ghost use Rattle.std.specs.Prelude.{◌≡◌, None, IfErr, IfOk, IfSome};
 ghost use Rattle.lab_records_keeper.specs.Worlds.{Passes};
 ghost use Rattle.lab_program_host.specs.declared.faults.ServerFault.TheVariants.{Write as NotWritten};
 ghost use Rattle.lab_program_host.specs.declared.faults.RehearsalFault.TheVariants.{Server as OfServer};
 
-use crate::leaving::leave;
 use lab_forms_streams::{WriteFault, write_whole};
 use lab_forms_texts::{LabCode, OutOfMemory, Tick};
 use lab_program_host::{Chance, Clock, FoundFault, Host, ServerFault, draw, read_all};
 use lab_program_opening::{
-    Closing, FoundingFault, OpenFault, Trouble, Volume, decline, decline_to_open, make_file,
+    Closing, Ended, Finished, FoundingFault, OpenFault, Trouble, Volume, decline, decline_to_open,
+    make_file,
 };
 use lab_program_serve::{Desk, Keeper};
 use lab_store::Store;
@@ -125,33 +125,50 @@ pub fn found_over<N, H: Volume, C: Clock, X: Chance, P, S: Keeper + Drop, B: Rea
     print(output, intake.line.as_slice())
 }
 
-// Founds a laboratory in the file at the path. Answers how the founding ended, where one was begun.
+// Founds a laboratory in the file at the path. Answers how the founding ended, where one was begun,
+// and the connection, which is left to be closed.
 fn found_in_file<N, H: Volume, C: Clock, X: Chance, P, B: Read, W: Write>(
     host: &mut Host<'_, N, H, C, X, P>,
     path: &str,
     lab: &LabCode,
     body: &mut B,
     output: &mut W,
-) -> Result<Result<(), FoundingFault>, OpenFault>
+) -> Ended<Result<Result<(), FoundingFault>, OpenFault>, H::Disk>
 where
     Connection<H::Disk>: Closing,
-    ensures ends { IfOk result (EndsOver (file_keeper H.Disk.Store) (record {
+    ensures ends { IfOk result.ending (λ ending. EndsAs (file_keeper H.Disk.Store) (record {
       drawing = drawing_of (C.coming host.old.clock) (C.coming host.new.clock)
           (X.coming host.old.chance) (X.coming host.new.chance);
       code = lab.now;
       body = B.remaining body.old;
-    }) (IsOpened H.Disk.Store (H.holds host.old.volume path.now))) }
-    ensures prints { IfOk result (λ ending. Prints (founded_line lab.now) ending
+    }) (IsOpened H.Disk.Store (H.holds host.old.volume path.now)) ending result.finished) }
+    ensures prints { IfOk result.ending (λ ending. Prints (founded_line lab.now) ending
         (W.contents output.old) (W.contents output.new)) }
-    ensures unbegun { IfErr result (λ _. Keeps (W.contents output.old) (W.contents output.new)) }
+    ensures unbegun { IfErr result.ending
+        (λ _. Keeps (W.contents output.old) (W.contents output.new)) }
+    ensures unopened { IfErr result.ending (λ _. result.finished ≡ None) }
 {
-    let conn = make_file(host.alloc, &mut host.volume, path)?;
-    let Ok(mut desk) = Desk::new(host.alloc, Store::new(host.alloc, conn)) else {
-        return Ok(Err(FoundingFault::Server(ServerFault::Memory)));
+    let conn = match make_file(host.alloc, &mut host.volume, path) {
+        Ok(conn) => conn,
+        Err(fault) => {
+            return Ended {
+                ending: Err(fault),
+                finished: None,
+            };
+        }
     };
-    let done = found_over(host, &mut desk, lab, body, output);
-    leave(desk.into_keeper());
-    Ok(done)
+    let Ok(mut desk) = Desk::new(host.alloc, Store::new(host.alloc, conn)) else {
+        return Ended {
+            ending: Ok(Err(FoundingFault::Server(ServerFault::Memory))),
+            finished: None,
+        };
+    };
+    let ending = found_over(host, &mut desk, lab, body, output);
+    let left = desk.into_keeper().into_connection();
+    Ended {
+        ending: Ok(ending),
+        finished: Some(Finished::new(left)),
+    }
 }
 
 /// `labdesk found`: founds a laboratory in the file at the path, which is made where there is none,
@@ -184,7 +201,7 @@ where
       status = result;
     }) }
 {
-    match found_in_file(host, path, lab, body, output) {
+    match found_in_file(host, path, lab, body, output).close() {
         Ok(Ok(())) => Ok(0),
         Ok(Err(fault)) => {
             let trouble = Trouble::Founding(path, fault);

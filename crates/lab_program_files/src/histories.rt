@@ -36,9 +36,9 @@ pub fn a_history_begins<D: Disk>()
 /// SHA-256 of exactly that version.
 ///
 /// The premises are those of [`IsHistory`]: the disk returns what was written, an opening finds
-/// what a crash at the stop before may have left, or after it (`may` of `Leaves`), and the tables have the
-/// schema's text there (`schema` of `Reopens`). The brackets ask for one way to see it, whichever
-/// it is.
+/// what a crash at the stop before may have left, or what its close left (`may` of `Leaves`), and
+/// the tables have the schema's text there (`schema` of `Reopens`). The brackets ask for one way to
+/// see it, whichever it is.
 pub fn an_installation_goes_on_alone<D: Disk>()
     ensures { (first : Meaning) (work : Work D D.Disk) (others : List (Work D D.Disk))
         (left : Meaning) → IsHistory first work others left →

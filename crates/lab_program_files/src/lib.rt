@@ -1,11 +1,10 @@
 //! The tasks over a file of laboratories: to found one in it, to serve them, to copy the records of one. And what the tasks
-//! share: what the file's tables mean as a keeper's, and how it is closed; and what is handed to them (`Host`).
+//! share: what the file's tables mean as a keeper's; and what is handed to them (`Host`).
 #![tactic(auto)]
 
 mod copying;
 mod founding;
 mod histories;
-mod leaving;
 mod opening;
 mod serving;
 mod starts;

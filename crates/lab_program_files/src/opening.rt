@@ -1,7 +1,6 @@
 //! Who opens the file at a path, and opens it anew.
 
-use crate::leaving::leave;
-use lab_program_opening::{Closing, OpenFault, Volume, open_file};
+use lab_program_opening::{Closing, Finished, OpenFault, Volume, open_file};
 use lab_program_serve::Opener;
 use lab_records_keeper::{BadStore, KeeperFault};
 use lab_store::Store;
@@ -19,6 +18,20 @@ impl<'a> FileOpener<'a> {
     /// Who opens the file at the path.
     pub fn new(path: &'a str) -> FileOpener<'a> {
         FileOpener { path }
+    }
+}
+
+/// Closes a file, unless others cut it: into such a file nothing more is written. A fault is passed
+/// over, since nothing is lost by it.
+pub fn close_uncut<H: Volume>(volume: &mut H, path: &str, finished: Finished<H::Disk>)
+where
+    Connection<H::Disk>: Closing,
+{
+    if volume.is_cut(path) {
+        finished.let_go();
+    } else {
+        let _ = finished.close();
+        volume.forget();
     }
 }
 
@@ -49,13 +62,7 @@ where
         }
     }
 
-    // Into a file that others cut nothing more is written.
     fn close(&mut self, host: &mut H, keeper: Store<H::Disk>) {
-        if host.is_cut(self.path) {
-            drop(keeper);
-        } else {
-            leave(keeper);
-            host.forget();
-        }
+        close_uncut(host, self.path, Finished::new(keeper.into_connection()));
     }
 }

@@ -3,7 +3,7 @@
 ghost use Rattle.std.specs.Prelude.{◌≡◌, ◌++◌, IsTrue, List, [], ◌∷◌, None, ℕ};
 ghost use Rattle.sqlite_wal.specs.Recovery.{Image};
 ghost use Rattle.sqlite_store.specs.declared.store.FileStore.{FileStore};
-ghost use Rattle.sqlite_store.specs.FileStore.{recovers, state as pages_of, view};
+ghost use Rattle.sqlite_store.specs.FileStore.{recovers, view};
 ghost use Rattle.sqlite.specs.Files.{file_state, over_files};
 ghost use Rattle.sqlite.specs.Held.{Held, IsConnected, state};
 ghost use Rattle.sqlite.specs.State.{HasCleanDisk};
@@ -19,14 +19,15 @@ ghost use Rattle.lab_program_serve.specs.Visits.{AreVisits, GoesOn, Visit};
 ghost use Rattle.lab_program_files.specs.FileWorlds.{file_keeper, file_rests, file_world};
 ghost use Rattle.lab_program_files.specs.Foundings.{IsFoundedAt};
 ghost use Rattle.lab_program_files.specs.Starts.{AreSoFar, IsRunOver, IsServedOver, founding_answered, start_of};
+ghost use Rattle.lab_program_files.specs.Stops.{Lies};
 
 use sqlite::Alter;
 use sqlite_disk::Disk;
 
 /// Law: where a file and its log hold at a start what a crash at the end of the last connection may
-/// leave of them, the laboratories that the start finds are among those that this crash may leave
-/// (`left`; the brackets ask for one way to see it, whichever it is). The connection of a start is
-/// live, and a crash at once leaves what was found and nothing else (`found`). The last connection
+/// leave of them, or what its close left (`Lies`), the laboratories that the start finds are among
+/// those that this crash may leave (`left`; the brackets ask for one way to see it, whichever it
+/// is). The connection of a start is live, and a crash at once leaves what was found and nothing else (`found`). The last connection
 /// is any, also one that a fault has shut; `IsConnected` is what is true of each.
 ///
 /// So the starts over a file are those of which the law `a_stop_and_a_start_go_on`
@@ -36,7 +37,7 @@ pub fn a_start_finds_what_was_left<D: Disk, S: Alter>()
     ensures left { (last : Held (FileStore D D.Disk)) (image : Image) (next : Held S) →
         IsConnected (view last.store) (recovers last.store) last.schema last.saved
         last.in_transaction →
-        HasCleanDisk (file_state last) → (pages_of last.store).may_leave image →
+        HasCleanDisk (file_state last) → Lies last image →
         IsOurs S.Store (AreHeldIn image) next → HasCleanDisk (state S.Store next) →
         ∥ (world_of (file_state last)).may_leave (world_of (state S.Store next)).meaning ∥₁ }
     ensures found { (image : Image) (next : Held S) → IsOurs S.Store (AreHeldIn image) next →
@@ -49,7 +50,7 @@ pub fn a_start_finds_what_was_left<D: Disk, S: Alter>()
         IsOurs over_files (AreHeldIn before) opened → IsRunOver over_files opened last handled →
         IsConnected (view last.store) (recovers last.store) last.schema last.saved
         last.in_transaction →
-        HasCleanDisk (file_state last) → (pages_of last.store).may_leave after →
+        HasCleanDisk (file_state last) → Lies last after →
         IsOurs S.Store (AreHeldIn after) next → HasCleanDisk (state S.Store next) →
         ∥ AreSoFar first (starts ++ start_of handled (world_of (file_state opened)).meaning
         (world_of (state S.Store next)).meaning ∷ []) (world_of (state S.Store next)).meaning ∥₁ }

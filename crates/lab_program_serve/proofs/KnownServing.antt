@@ -1,6 +1,6 @@
 -- Values from outside, computed on the definitions: the line that is printed (docs/FORMATS.md), and small instances of what a
 -- writer that failed has taken and of how many connections are served.
-use Rattle.std.proofs.Common.{◌≡◌, decimal, codes, lit<, ◌∙◌, refl, ◌++◌, ap, inl, inr, ℕ, Bool, List, [], ◌∷◌, true, false, true≢false, Some, None, Ok, Err}
+use Rattle.std.proofs.Common.{◌≡◌, decimal, codes, lit<, ◌∙◌, refl, ◌++◌, ap, inl, inr, ℕ, Bool, List, [], ◌∷◌, true, false, true≢false, Option, Some, None, Ok, Err}
 use Rattle.std.proofs.lemmas.Fmt.{decimal-digits_of}
 use Rattle.std.proofs.lemmas.List.Elements.{All-cons, All-nil}
 use Rattle.std.specs.Prelude.{◌==◌, ◌⊎◌}
@@ -18,8 +18,10 @@ use Rattle.lab_desk_events.specs.Alone.{Request}
 use Rattle.lab_desk_events.specs.Keeping.{OfAll}
 use Rattle.lab_desk_events.specs.Runs.{Handled, IsAnswer, after_run}
 use Rattle.lab_desk_events.proofs.Keeping.{follows_itself}
+use Rattle.lab_desk.specs.Desk.{Served}
 use Rattle.lab_program_serve.specs.Runs.{IsServedRun}
 use Rattle.lab_program_serve.specs.Texts.{listening_line, IsPrinted}
+use Rattle.lab_program_serve.specs.Times.{EndWith, Time}
 use Rattle.lab_program_serve.specs.Visits.{AreCounted, Visit, is_unavailable}
 
 port : decimal 8080 ≡ codes "8080"
@@ -45,6 +47,17 @@ known_counted = (refl, λ counted. true≢false (ap (λ (number : ℕ). number =
 pub known_unavailable : (is_unavailable (codes "HTTP/1.1 503 Service Unavailable\r\n") ≡ true)
     × (is_unavailable (codes "HTTP/1.1 200 OK\r\n") ≡ false) × (is_unavailable [] ≡ false)
 known_unavailable = (refl, refl, refl)
+
+-- the keeper that is left is the one of the last time
+abbrev time : ℕ → Time ℕ
+time last = record { first = 0; reply = []; visits = []; last = last; refused = [] }
+
+abbrev left : ℕ → Option (Served ℕ)
+left keeper = Some (record { keeper = keeper; reply = [] })
+
+pub known_end : EndWith (time 1 ∷ time 2 ∷ []) (left 2)
+    × (EndWith (time 1 ∷ time 2 ∷ []) (left 1) → ⊥) × EndWith (time 1 ∷ []) None
+known_end = ((refl, refl), λ ends. true≢false (ap (λ (number : ℕ). number == 2) ends.1), tt)
 
 -- ---- a service that a fault ended
 

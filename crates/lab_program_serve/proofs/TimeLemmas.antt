@@ -8,7 +8,7 @@ use Rattle.lab_desk.specs.Desk.{Served}
 use Rattle.lab_desk_events.specs.Keeping.{GivenWithin, Stays, StaysOn}
 use Rattle.lab_desk_events.proofs.Lasting.{stays_after, stays_first, still_stays}
 use Rattle.lab_program_host.specs.Sources.{GivesInOrder}
-use Rattle.lab_program_serve.specs.Times.{AreRefused, AreTimes, BeginWith, IsMended, IsMet, IsNext, IsHandledShut, IsServed, IsTime, ServesTimes, Time, visits_of}
+use Rattle.lab_program_serve.specs.Times.{AreRefused, AreTimes, BeginWith, EndWith, IsMended, IsMet, IsNext, IsHandledShut, IsServed, IsTime, ServesTimes, Time, visits_of}
 use Rattle.lab_program_serve.specs.Visits.{AreCounted, AreGiven, GoesOn, KeepsGiven, Sources, Visit}
 use Rattle.lab_program_serve.proofs.VisitWords.{reply_after}
 use Rattle.lab_program_serve.proofs.VisitLemmas.{first_of, given_more, given_none, reply_last, sources_of, visits_more}
@@ -49,6 +49,13 @@ begin_longer : {S : Type 0} (keeper : Ghosts S) (opened : S → Type 0) (first :
     BeginWith keeper opened first (times ++ more)
 begin_longer keeper opened first [] more begin = absurd begin
 begin_longer keeper opened first (one ∷ others) more begin = begin
+
+end_last : {S : Type 0} (earlier : List (Time S)) (time : Time S) (left : Option (Served S)) →
+    IfSome left (λ desk. (time.refused ≡ []) × (time.last ≡ desk.keeper)) →
+    EndWith (earlier ++ time ∷ []) left
+end_last [] time left ends = ends
+end_last (one ∷ []) time left ends = ends
+end_last (one ∷ other ∷ others) time left ends = end_last (other ∷ others) time left ends
 
 times_more : {S : Type 0} (keeper : Ghosts S) (opened : S → Type 0) (times : List (Time S))
     (time : Time S) → AreTimes keeper opened times → IsTime keeper opened time →
@@ -193,6 +200,11 @@ module _ {S : Type 0} (keeper : Ghosts S) (opened : S → Type 0) where
       × (reply_after time.reply time.visits ≡ desk.reply)
   GoesOnAt time None = Unit {0}
 
+  ends_at : (time : Time S) (now : Option (Served S)) → GoesOnAt time now →
+      IfSome now (λ desk. (time.refused ≡ []) × (time.last ≡ desk.keeper))
+  ends_at time None on = tt
+  ends_at time (Some desk) on = (on.0, on.1)
+
   pub record SoFar (first : S) (now : Option (Served S)) (visits : List Visit) : Type 0 where
     pub earlier : List (Time S)
     pub time : Time S
@@ -330,10 +342,12 @@ module _ {S : Type 0} (keeper : Ghosts S) (opened : S → Type 0) where
       (sources others : Sources) (ending : Result (Unit {0}) F) →
       (c : Counted first now served sources) → AreCounted ending count c.visits →
       KeepsGiven ending c.visits others →
-      ServesTimes keeper opened first ending count others
+      ServesTimes keeper opened first now ending count others
   serves_all first now served count sources others ending c counted given = record {
     times = c.so_far.earlier ++ c.so_far.time ∷ [];
     begin = c.so_far.begin;
+    ends = end_last c.so_far.earlier c.so_far.time now
+        (ends_at c.so_far.time now c.so_far.goes_on);
     are = times_more keeper opened c.so_far.earlier c.so_far.time c.so_far.are c.so_far.is;
     counted = subst (AreCounted ending count) (sym c.so_far.all) counted;
     given = subst (λ visits. KeepsGiven ending visits others) (sym c.so_far.all) given;
@@ -374,7 +388,7 @@ module _ {S : Type 0} (keeper : Ghosts S) (opened : S → Type 0) where
   pub serves_done : (F : Type 0) (old now : Option (Served S)) (served count : ℕ)
       (sources : Sources) → served ≡ count → CountsFrom old now served sources →
       IfSome old (λ desk. opened desk.keeper →
-      ServesTimes keeper opened {F = F} desk.keeper (Ok tt) count sources)
+      ServesTimes keeper opened {F = F} desk.keeper now (Ok tt) count sources)
   serves_done F old now served count sources all so =
       some_then _ _ old (λ desk before opened_so.
       let c = before opened_so in
@@ -387,7 +401,7 @@ module _ {S : Type 0} (keeper : Ghosts S) (opened : S → Type 0) where
       served ≤ count →
       CountsFrom old now served (sources_of coming left moments later words further) →
       IfSome old (λ desk. opened desk.keeper →
-      ServesTimes keeper opened desk.keeper (Err fault) count
+      ServesTimes keeper opened desk.keeper now (Err fault) count
       (sources_of coming last moments latest words furthest))
   serves_cut fault old now served count coming left last moments later latest words further
       furthest within so =

@@ -1,7 +1,7 @@
 -- The times of a server. Over a keeper that was opened it serves one connection after the other.
 -- Once that keeper no longer answers, it is given up, and before the next request one is opened
 -- anew; where none could be opened, that request is refused, and the next one tries again.
-use Rattle.std.specs.Prelude.{◌≡◌, ◌⊎◌, ◌++◌, ℕ, List, [], ◌∷◌, Option, Some, None, Result}
+use Rattle.std.specs.Prelude.{◌≡◌, ◌⊎◌, ◌++◌, ℕ, List, [], ◌∷◌, Option, Some, None, Result, IfSome}
 use Rattle.lab_records_keeper.specs.declared.keeper.Keeper.{Ghosts}
 use Rattle.lab_records_keeper.specs.Worlds.{Passes}
 use Rattle.lab_desk_events.specs.Keeping.{GivenWithin, Stays, StaysOn}
@@ -26,6 +26,13 @@ pub record Time (S : Type 0) : Type 0 where
 abbrev pub visits_of : {S : Type 0} → List (Time S) → List Visit
 visits_of [] = []
 visits_of (time ∷ times) = (time.visits ++ time.refused) ++ visits_of times
+
+-- the last time ends with this keeper, unless none could be opened
+abbrev pub EndWith : {S : Type 0} → List (Time S) → Option (Served S) → Type 0
+EndWith [] left = ⊥
+EndWith (time ∷ []) left =
+    IfSome left (λ desk. (time.refused ≡ []) × (time.last ≡ desk.keeper))
+EndWith (time ∷ next ∷ times) left = EndWith (next ∷ times) left
 
 -- the request of a connection was handled as by a keeper that a fault has shut
 pub record IsHandledShut (visit : Visit) : Type 0 where
@@ -94,11 +101,12 @@ module _ {S : Type 0} (keeper : Ghosts S) (opened : S → Type 0) where
   BeginWith first [] = ⊥
   BeginWith first (time ∷ times) = time.first ≡ first
 
-  -- so many connections were wanted, and this is how serving them ended
-  pub record ServesTimes {F : Type 0} (first : S) (ending : Result (Unit {0}) F) (count : ℕ)
-      (sources : Sources) : Type 0 where
+  -- so many connections were wanted, this is how serving them ended, and this keeper was left
+  pub record ServesTimes {F : Type 0} (first : S) (left : Option (Served S))
+      (ending : Result (Unit {0}) F) (count : ℕ) (sources : Sources) : Type 0 where
     pub times : List (Time S)
     pub begin : BeginWith first times
+    pub ends : EndWith times left
     pub are : AreTimes times
     pub counted : AreCounted ending count (visits_of times)
     pub given : KeepsGiven ending (visits_of times) sources

@@ -1,6 +1,6 @@
 //! A desk over a keeper that is opened anew once it doesn't answer.
 
-ghost use Rattle.std.specs.Prelude.{◌≡◌, true, false, ℕ, List, [], Some, None, IfOk};
+ghost use Rattle.std.specs.Prelude.{◌≡◌, true, false, ℕ, List, [], Some, None, option_map, IfOk};
 ghost use Rattle.lab_program_serve.specs.Times.{IsMended, IsNext};
 ghost use Rattle.lab_program_serve.specs.Visits.{GoesOn};
 
@@ -166,19 +166,19 @@ impl<S: Keeper + Drop, O: Drop> LiveDesk<S, O> {
         }
     }
 
-    /// Closes the keeper, if there is one.
-    pub fn close<H>(self, host: &mut H)
-    where
-        O: Opener<H, S>,
+    /// Gives the keeper back, if there is one.
+    pub fn into_keeper(self) -> Option<S>
+        ensures { result ≡ option_map (λ desk. desk.keeper) self }
     {
         let LiveDesk {
-            mut opener,
+            opener: _,
             lab: _,
             desk,
             shut: _,
         } = self;
-        if let Some(desk) = desk {
-            opener.close(host, desk.into_keeper());
+        match desk {
+            Some(desk) => Some(desk.into_keeper()),
+            None => None,
         }
     }
 }

@@ -1,14 +1,24 @@
--- Where the file or the clock fails nothing goes out; then the walk tells.
+-- Where the file or the clock fails nothing goes out; then the walk tells. What it left is closed.
+use Rattle.std.proofs.Common.{◌∙◌, Some, ap, subst, sym}
+use Rattle.lab_program_opening.specs.Files.{IsOurs}
 use Rattle.lab_program_files.proofs.copying.copy_file.Goals as goal
 
+pub returns-in_default-clause-untouched : goal.returns-in_default-clause-untouched
+returns-in_default-clause-untouched g c =
+    subst (IsOurs g.H.Disk.Store (g.H.Volume.holds c.args.host.now.volume c.args.path.now))
+    (sym c.new.ensures) c.in-Ok.ensures.ours
+
 pub returns-clause-copies : goal.returns-clause-copies
-returns-clause-copies g c = record {
-  old = c.new-store.result;
-  new = c.copy_out-copied.new.keeper;
-  begins = rw c.new-store.ensures c.in_ok-conn.ensures.ours;
-  moment = c.in-Ok.moment;
-  given = c.in-Ok.ensures.given;
-  text = c.copy_out-copied.ensures.text;
-  fault = c.copy_out-copied.ensures.fault;
-  read = c.copy_out-copied.ensures.read;
-}
+returns-clause-copies g c = (
+  record {
+    old = c.new-store.result;
+    new = c.copy_out-ending.new.keeper;
+    begins = rw c.new-store.ensures c.in-Ok.ensures.ours;
+    moment = c.in-Ok-moment.moment;
+    given = c.in-Ok-moment.ensures.given;
+    text = c.copy_out-ending.ensures.text;
+    fault = c.copy_out-ending.ensures.fault;
+    read = c.copy_out-ending.ensures.read;
+  },
+  ap Some (c.new-2.ensures ∙ c.into_connection-left.ensures.same),
+)

@@ -2,4 +2,4 @@ use Rattle.lab_program_files.proofs.histories.an_installation_goes_on_alone.Goal
 use Rattle.lab_program_files.proofs.HistoryLemmas.{goes_on_alone}
 
 pub returns : goal.returns
-returns g c = goes_on_alone
+returns g c = goes_on_alone {g = g.D.Disk} g.met.D.Disk.seen_may_stay

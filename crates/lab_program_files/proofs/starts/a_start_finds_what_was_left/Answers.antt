@@ -1,13 +1,13 @@
--- What the next open finds the kit says (`next_run`), and of what is found the opening says the rest.
+-- What the next open finds the kit says (`stop_left`), and of what is found the opening says the rest.
 use Rattle.std.proofs.Common.{◌∙◌, ap}
 use Rattle.std.proofs.Math.Logic.{∥∥₁_map}
 use Rattle.sqlite.specs.Effect.{Database}
 use Rattle.sqlite.specs.Files.{over_files}
 use Rattle.sqlite.specs.Held.{state}
-use Rattle.sqlite.proofs.Theorems.{next_run}
 use Rattle.lab_store_tables.specs.Meaning.{meaning}
 use Rattle.lab_store_tables.specs.Rows.{tables_in}
 use Rattle.lab_program_opening.specs.Files.{AreHeldIn}
+use Rattle.lab_program_files.proofs.StopLemmas.{stop_left}
 use Rattle.lab_program_files.proofs.StartLemmas.{leaves_found, one_start_more}
 use Rattle.lab_program_files.proofs.starts.a_start_finds_what_was_left.Goals as goal
 
@@ -16,7 +16,7 @@ returns-clause-left g c = λ last image next connected clean may ours shown.
     let it = ours.2.1 shown in
     let found = ours.1 it.0 in
     let was = state g.S.Store ours.0 in
-    ∥∥₁_map (next_run last.store (connected.numbered clean) (connected.found clean) image may was
+    ∥∥₁_map (stop_left {g = g.D.Disk} g.met.D.Disk.seen_may_stay last connected clean image may was
     (record { holds = found.held.holds; reads = found.held.reads }))
     (λ left. (
       was.committed.trees,
