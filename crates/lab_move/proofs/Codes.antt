@@ -17,7 +17,7 @@ use Rattle.lab_move_read.specs.Laboratories.{codes_of, IsLabOf, IsLabOfRow}
 use Rattle.lab_move.specs.Moving.{meaning_among}
 use Rattle.lab_store_tables.proofs.Comparing.{text_is, text_alike}
 
-total_by_lab : IsTotalOrder by_lab
+pub total_by_lab : IsTotalOrder by_lab
 total_by_lab = record {
   antisymm = λ x y. nat_list_cmp_total.antisymm x.code y.code;
   trans = λ x y z. nat_list_cmp_total.trans x.code y.code z.code;
@@ -31,11 +31,11 @@ as_many t = length_permutation (sort_by by_lab t.labs) t.labs (IsPermutation-sor
 
 -- ---- a code that isn't among them has no laboratory
 
-coded : (code : List ℕ) (rows : List LabRow) → list_any (λ one. bytes_eq one code) (map (λ (row : LabRow). row.code) rows) ≡ list_any (has_code code) rows
+pub coded : (code : List ℕ) (rows : List LabRow) → list_any (λ one. bytes_eq one code) (map (λ (row : LabRow). row.code) rows) ≡ list_any (has_code code) rows
 coded code [] = refl
 coded code (row ∷ rows) = ap (λ b. bytes_eq row.code code || b) (coded code rows)
 
-unfound : (code : List ℕ) (rows : List LabRow) → list_any (has_code code) rows ≡ false → find (has_code code) rows ≡ None
+pub unfound : (code : List ℕ) (rows : List LabRow) → list_any (has_code code) rows ≡ false → find (has_code code) rows ≡ None
 unfound code [] none = refl
 unfound code (row ∷ rows) none = go (has_code code row) none (unfound code rows)
   where

@@ -1,8 +1,9 @@
 -- How a move ends: the new file as a start asks it, and what is left of it where the move failed or was stopped.
-use Rattle.std.proofs.Common.{◌≡◌, inl, inr, Ok, Err, Result, OnOk, OnErr, IsTrue, sym, subst}
+use Rattle.std.proofs.Common.{◌≡◌, inl, inr, Ok, Err, Result, OnOk, OnErr, IsTrue, sym, ap, subst, ◌∙◌}
+use Rattle.sqlite_trees.specs.Tree.{Trees}
 use Rattle.sqlite_trees.specs.declared.store.Store.{Ghosts}
 use Rattle.sqlite.specs.Effect.{Database}
-use Rattle.sqlite.specs.Held.{state}
+use Rattle.sqlite.specs.Held.{Held, state}
 use Rattle.sqlite.specs.State.{State, HasCleanDisk}
 use Rattle.lab_records_kept.proofs.ReleaseLemmas.{all_released}
 use Rattle.lab_records_kept.specs.Limits.{IsWithin}
@@ -16,7 +17,7 @@ use Rattle.lab_move_files.specs.Commits.{MakesAtOnce}
 use Rattle.lab_move_files.specs.Unfinished.{Begins, IsBeingFilled}
 use Rattle.lab_move_files.proofs.Refusals.{unnamed_refused, blank_refused}
 use Rattle.lab_move.specs.OldFiles.{StandsFor}
-use Rattle.lab_move.specs.Moving.{IsBegun, FillsAll, IsNoInstallation, IsSoundLab, IsStart, IsWhole, LeavesUnfinished}
+use Rattle.lab_move.specs.Moving.{IsBegun, FillsAll, IsNoInstallation, IsSoundLab, IsStart, IsWhole, Lasts, LeavesUnfinished}
 use Rattle.lab_move.proofs.FilledFiles.{all_weaker, carried_from}
 
 -- ---- refused by `open`
@@ -105,3 +106,21 @@ module _ {Stands : Database → Tables → Type 0} {S : Type 0} (g : Ghosts S) {
       go : (end : Result B F) → OnOk end (IsTrue new.is_open × IsWhole StandsFor before after new.now) → OnOk end (IsStart new)
       go (Ok b) it = starts before after new q.at_rest it.0 it.1
       go (Err e) it = tt
+
+-- ---- what lasts: while the file is open, a crash leaves what was committed, which is what is shown
+
+module _ {S : Type 0} (g : Ghosts S) (stays : (s : S) → IsTrue (g.view s).is_open → g.recovers s (g.view s).committed)
+    (settled : (s : S) (db : Trees) → IsTrue (g.view s).is_open → g.recovers s db → db ≡ (g.view s).committed) (before after : State) (h : Held S) where
+  lasts_now : IsAtRest (state g h) → HasCleanDisk (state g h) → IsTrue (state g h).is_open → IsWhole StandsFor before after (state g h).now → Lasts before after (state g h)
+  lasts_now rest clean opened whole =
+      let same : (state g h).now.trees ≡ (state g h).committed.trees = ap (λ (db : Database). db.trees) (rest.settled clean opened) in
+      record {
+        left = λ trees left. settled h.store trees opened left ∙ sym same;
+        stays = subst (λ (trees : Trees). (state g h).may_leave trees) (sym same) (stays h.store opened);
+        whole = whole;
+      }
+
+  pub lasting : {B F : Type 0} (r : Result B F) → IsAtRest (state g h) → HasCleanDisk (state g h) → OnOk r (IsTrue (state g h).is_open × IsWhole StandsFor before after (state g h).now)
+      → OnOk r (Lasts before after (state g h))
+  lasting (Ok b) rest clean it = lasts_now rest clean it.0 it.1
+  lasting (Err e) rest clean it = tt

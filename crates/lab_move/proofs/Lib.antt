@@ -1,5 +1,7 @@
 pub mod OldVerdicts
+pub mod OldOwed
 pub mod Codes
+pub mod FirstUnsound
 pub mod Counts
 pub mod Steps
 pub mod FilledFiles
@@ -9,3 +11,5 @@ pub mod EachLab
 pub mod AllLabs
 pub mod CountedFiles
 pub mod Causes
+pub mod MoveOwed
+pub mod KnownOwed

@@ -1,5 +1,5 @@
 -- The question for the number of a schema, asked of a file of an older one in either style; and which verdicts there are.
-use Rattle.std.proofs.Common.{◌≡◌, ◌≢◌, ◌≤◌, inl, inr, ℕ, ℤ, pos, negsuc, Bool, true, false, ◌==◌, List, [], ◌∷◌, codes, map, filter, length, Option, Some, None, Ok, Err, Result, IfOk, IsTrue, refl, sym, ap, subst, ◌∙◌, int_eq, arith, cond, find}
+use Rattle.std.proofs.Common.{◌≡◌, ◌≢◌, ◌≤◌, inl, inr, ℕ, ℤ, pos, negsuc, Bool, true, false, ◌==◌, List, [], ◌∷◌, codes, map, filter, length, Option, Some, None, Ok, Err, Result, IfOk, IsTrue, refl, sym, ap, subst, ◌∙◌, arith, cond, find}
 use Rattle.std.specs.Prelude.{if◌then◌else◌, int_lt, unsigned_abs}
 use Rattle.std.specs.Option.{option_map_or}
 use Rattle.std.proofs.lemmas.Bool.{eqb-true, and_parts}
@@ -49,7 +49,7 @@ use Rattle.lab_move.specs.Faults.{read_told, IsOfStore}
 use Rattle.lab_move_tables.specs.Standing.{StandsBy}
 use Rattle.lab_move.specs.declared.old_tables.OldTable.{OldTable}
 use Rattle.lab_move.specs.declared.old_tables.OldTable.TheVariants.{Desk, Labs, Persons, Sessions, Forms, Fields, Choices, Records, Versions, Entries, Signatures, Trail}
-use Rattle.lab_move.specs.OldFiles.{own_table, name_of, is_like, is_whole, is_old_desk, has_old_number, older_of, oldest, whole_verdict, other_verdict, named_verdict, shown_verdict, old_verdict, IsOldVerdict, OldAnswers, IsNamedOldFile, Names, StandsFor}
+use Rattle.lab_move.specs.OldFiles.{own_table, name_of, is_like, is_whole, is_old_desk, has_old_number, older_of, oldest, whole_verdict, named_verdict, shown_verdict, old_verdict, OldAnswers, IsNamedOldFile, Names, StandsFor}
 
 -- ---- what the question means
 
@@ -191,7 +191,7 @@ found_passes p (x ∷ xs) found h = go (p x) refl h (found_passes p xs found)
     go true e is more = let same : x ≡ found = cc in subst (λ it. p it ≡ true) same e
     go false e is more = more is
 
-number_is : (number : ℤ) (older : Older) → older_of number ≡ Some older → number ≡ pos (number_of older)
+pub number_is : (number : ℤ) (older : Older) → older_of number ≡ Some older → number ≡ pos (number_of older)
 number_is number older h = sym (same_int (pos (number_of older)) number (found_passes (has_old_number number) all_older older h))
 
 unnamed : (low old : Bool) (n : ℕ) (older : Older)

@@ -3,3 +3,4 @@ pub mod Arrows
 pub mod OldFiles
 pub mod Counting
 pub mod Moving
+pub mod Owed

@@ -215,3 +215,12 @@ pub record LeavesUnfinished {S : Type 0} (g : Ghosts S) (before after : State) {
       × (trees ≡ db.trees))
   -- where the call failed, the file is refused, as it would have been before
   pub rows : WhereShown new (OnErr result (IsNoInstallation g new.now))
+
+-- ---- what it leaves of a whole one
+
+-- it lasts: a crash, whenever it comes while the file is open, leaves the rows that it shows and
+-- nothing else, and these are the whole file
+pub record Lasts (before after new : State) : Type 0 where
+  pub left : (trees : Trees) → new.may_leave trees → trees ≡ new.now.trees
+  pub stays : new.may_leave new.now.trees
+  pub whole : IsWhole StandsFor before after new.now

@@ -25,5 +25,6 @@ pub use lab_records_kept::Lab;
 pub use lab_store_files::FileFault;
 pub use moving::{
     a_named_file_stands, an_exact_file_is_named, an_unfinished_file_is_refused, migrate,
+    one_refusal_is_owed, the_first_unsound_is_least,
 };
-pub use opening::{OldFile, open_old};
+pub use opening::{OldFile, one_old_answer_is_owed, open_old};

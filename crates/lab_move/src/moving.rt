@@ -1,13 +1,16 @@
 //! A file of an older schema, moved.
 
-ghost use Rattle.std.specs.Prelude.{◌≡◌, ◌⊎◌, Err, IfErr, IfOk, OnOk, IsTrue, Result};
+ghost use Rattle.std.specs.Prelude.{◌≡◌, ◌⊎◌, ℕ, ℤ, false, List, Option, Ok, Err, IfErr, IfOk, OnOk, IsTrue, Result};
+ghost use Rattle.std.specs.List.{list_any};
 ghost use Rattle.sqlite.specs.Effect.{Database};
 ghost use Rattle.sqlite.specs.Held.{state};
 ghost use Rattle.sqlite.specs.State.{HasCleanDisk};
 ghost use Rattle.lab_store_tables.specs.Ready.{IsAtRest, tables_of};
 ghost use Rattle.lab_store_files.specs.declared.faults.FileFault.TheVariants.{Memory, NotEmpty, Storage};
 ghost use Rattle.lab_store_files.specs.NewFiles.{IsBlank};
+ghost use Rattle.lab_store_files.specs.Owed.{Names as HasNumber};
 ghost use Rattle.lab_store_files.specs.Schemas.{is_taken};
+ghost use Rattle.lab_store_tables.specs.Meaning.{has_code};
 ghost use Rattle.lab_store_tables.specs.Rows.{Tables};
 ghost use Rattle.lab_move_tables.specs.OldRows.{IsOldFile, old_tables};
 ghost use Rattle.lab_move_tables.specs.PeerFiles.{IsPeerFile};
@@ -17,11 +20,14 @@ ghost use Rattle.lab_move_tables.specs.declared.older.Older.{Older as AnyOlder};
 ghost use Rattle.lab_move_tables.specs.declared.older.Older.TheVariants.{Two};
 ghost use Rattle.lab_move_files.specs.Commits.{MakesAtOnce};
 ghost use Rattle.lab_move_files.specs.Unfinished.{Begins, IsBeingFilled};
+ghost use Rattle.lab_move_read.specs.Laboratories.{codes_of};
+ghost use Rattle.lab_move.specs.declared.faults.MoveFault.{MoveFault as AnyFault};
 ghost use Rattle.lab_move.specs.declared.faults.MoveFault.TheVariants.{File};
 ghost use Rattle.lab_move.specs.Counting.{HasAsMany};
 ghost use Rattle.lab_move.specs.Faults.{is_early};
-ghost use Rattle.lab_move.specs.Moving.{HasCause, IsMoved, IsNoInstallation, IsStart, LeavesUnfinished};
+ghost use Rattle.lab_move.specs.Moving.{HasCause, IsFirstUnsound, IsMoved, IsNoInstallation, IsSoundIn, IsStart, Lasts, LeavesUnfinished};
 ghost use Rattle.lab_move.specs.OldFiles.{IsNamedOldFile, Names, StandsFor, is_old_desk};
+ghost use Rattle.lab_move.specs.Owed.{AnswersOldOwed, IsMoveOwed, MovesAsOwed, OpensOld, StopsAt, precedes};
 
 use crate::faults::MoveFault;
 use crate::filling::fill;
@@ -53,6 +59,27 @@ pub fn an_exact_file_is_named()
 pub fn a_named_file_stands()
     ensures { (older : AnyOlder) (db : Database) → IsNamedOldFile older db → (t : Tables) →
         StandsBy older db t → StandsFor db t }
+{}
+
+/// Law: the first laboratory that isn't sound, in the order in which they are moved, is the one of
+/// the least code (`least`), and there is one such alone (`alone`); each laboratory of a lesser code
+/// is sound (`before`).
+pub fn the_first_unsound_is_least()
+    ensures least { (t : Tables) (code : List ℕ) → IsFirstUnsound t (codes_of t) code →
+        StopsAt t code }
+    ensures alone { (t : Tables) (one other : List ℕ) → StopsAt t one → StopsAt t other →
+        one ≡ other }
+    ensures before { (t : Tables) (code : List ℕ) → IsFirstUnsound t (codes_of t) code →
+        (other : List ℕ) → IsTrue (list_any (has_code other) t.labs) →
+        IsTrue (precedes other code) → IsSoundIn t other }
+{}
+
+/// Law: a move owes one refusal at most, where the old file shows a number, of the tables for which
+/// it stands: the old file's come before that of the new one, and that before the laboratories'.
+pub fn one_refusal_is_owed()
+    ensures { (old fresh : Database) (number : Option ℤ) → HasNumber old number → (t : Tables) →
+        (one other : AnyFault) → IsMoveOwed OpensOld (λ _ code. StopsAt t code) old fresh one →
+        IsMoveOwed OpensOld (λ _ code. StopsAt t code) old fresh other → one ≡ other }
 {}
 
 // Makes the tables of the new file, for an old one of the schema.
@@ -88,6 +115,11 @@ fn begin<S: Alter, T: Alter>(
         (state T.Store new.old) (state T.Store new.new) }
     ensures cause { IfErr result (λ fault. HasCause (state S.Store old.old.conn)
         (state S.Store old.new.conn) (state T.Store new.old) (File fault)) }
+    ensures opened { HasCleanDisk (state S.Store old.new.conn) → IfOk result (λ older.
+        AnswersOldOwed (state S.Store old.old.conn).now (Ok older)
+        × (is_taken (state T.Store new.old).now.schema ≡ false)) }
+    ensures owed { IfErr result (λ fault. MovesAsOwed (state S.Store old.old.conn)
+        (state S.Store old.new.conn) (state T.Store new.old) {A = ℕ} (Err (File fault))) }
     ensures untouched { IfErr result (λ fault. IsTrue (is_early (File fault)) → new.new ≡ new.old) }
     ensures taken { IsTrue (is_taken (state T.Store new.old).now.schema) →
         OnOk result ⊥ × (new.new ≡ new.old) }
@@ -135,6 +167,10 @@ pub fn migrate<S: Alter, T: Alter, P: MoveProgress>(
     // A fault has this cause:
     ensures refused { IfErr result (HasCause (state S.Store old.old.conn)
         (state S.Store old.new.conn) (state T.Store new.old)) }
+    // Each refusal is told exactly where it is owed, unless a store failed: the old file's first,
+    // then the new one's, then that of the laboratory of the least code that isn't sound:
+    ensures owed { MovesAsOwed (state S.Store old.old.conn)
+        (state S.Store old.new.conn) (state T.Store new.old) result }
     // However it ends, the old rows are as they were, and a crash leaves no more of the old file
     // than before:
     ensures old_same { ReadsOld (λ _ _. Unit {0})
@@ -144,6 +180,10 @@ pub fn migrate<S: Alter, T: Alter, P: MoveProgress>(
     ensures unfinished { IsBlank (state T.Store new.old).now → LeavesUnfinished T.Store
         (state S.Store old.old.conn) (state S.Store old.new.conn) result
         (state T.Store new.old) (state T.Store new.new) }
+    // Where it answers a number, what it made lasts: a crash leaves the whole file and nothing else:
+    ensures durable { IsBlank (state T.Store new.old).now → HasCleanDisk (state T.Store new.new) →
+        OnOk result (Lasts (state S.Store old.old.conn) (state S.Store old.new.conn)
+        (state T.Store new.new)) }
     // The new file is untouched where the old one is none of an older schema, and where it has such a
     // table itself:
     ensures untouched { IfErr result (λ fault. IsTrue (is_early fault) → new.new ≡ new.old) }

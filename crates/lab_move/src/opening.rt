@@ -1,9 +1,10 @@
 //! An old file is opened, where it is one of an older schema of which files are moved.
 
-ghost use Rattle.std.specs.Prelude.{◌≡◌, ◌≢◌, ◌⊎◌, [], Ok, Err, IfOk, IfErr};
+ghost use Rattle.std.specs.Prelude.{◌≡◌, ◌≢◌, ◌⊎◌, ℤ, Bool, Option, [], Result, Ok, Err, IfOk, IfErr};
 ghost use Rattle.sqlite_value.specs.Order.{column};
 ghost use Rattle.sqlite.specs.Held.{state};
 ghost use Rattle.sqlite.specs.State.{HasCleanDisk, Shown};
+ghost use Rattle.lab_store_files.specs.declared.faults.FileFault.{FileFault as AnyFault};
 ghost use Rattle.lab_store_files.specs.declared.faults.FileFault.TheVariants.{NotEmpty};
 ghost use Rattle.lab_store_files.specs.Faults.{FailedInStore};
 ghost use Rattle.lab_store_files.specs.Verdicts.{integer_in, number_query, number_shown};
@@ -11,6 +12,7 @@ ghost use Rattle.lab_move_tables.specs.Reading.{ReadsOld};
 ghost use Rattle.lab_move_tables.specs.declared.older.Older.{Older as AnyOlder};
 ghost use Rattle.lab_move.specs.Faults.{IsOfStore};
 ghost use Rattle.lab_move.specs.OldFiles.{older_of, whole_verdict, other_verdict, named_verdict, old_verdict, OldAnswers, IsNamedOldFile};
+ghost use Rattle.lab_move.specs.Owed.{AnswersOldOwed, IsOldOwed};
 
 use crate::faults::store_fault;
 use crate::schemas::{has_number, is_whole};
@@ -40,6 +42,16 @@ impl<S: Alter> Readable for OldFile<S> {
         }
     }
 }
+
+/// Law: an old file owes one answer, and not two, whichever older schemas' tables it has and
+/// whatever number it names.
+pub fn one_old_answer_is_owed()
+    ensures some { (has : AnyOlder → Bool) → (number : Option ℤ) →
+        (answer : Result AnyOlder AnyFault) × IsOldOwed has number answer }
+    ensures alone { (has : AnyOlder → Bool) → (number : Option ℤ) →
+        (one other : Result AnyOlder AnyFault) → IsOldOwed has number one →
+        IsOldOwed has number other → one ≡ other }
+{}
 
 // The whole number that a row shows first.
 fn integer_in(row: &Row) -> Option<i64>
@@ -140,6 +152,9 @@ pub fn open_old<S: Alter>(file: &mut OldFile<S>) -> Result<Older, FileFault>
     // The answer is the verdict on the file, or the store gave none:
     ensures answer { HasCleanDisk (state S.Store file.new.conn) →
         OldAnswers (state S.Store file.old.conn) (state S.Store file.new.conn) result }
+    // Each refusal is told exactly where the file owes it, unless the store failed:
+    ensures owed { HasCleanDisk (state S.Store file.new.conn) →
+        AnswersOldOwed (state S.Store file.old.conn).now result }
     // A file of an older schema is never refused as another one:
     ensures ours { HasCleanDisk (state S.Store file.new.conn) → (older : AnyOlder) →
         IsNamedOldFile older (state S.Store file.old.conn).now →

@@ -12,11 +12,13 @@ use Rattle.lab_forms_texts.specs.Faults.{memory_entry}
 use Rattle.lab_forms_streams.specs.declared.sending.WriteFault.{WriteFault as Untold}
 use Rattle.lab_forms_streams.specs.Sending.{write_fault_word}
 use Rattle.lab_move.specs.OldFiles.{StandsFor}
-use Rattle.lab_move.specs.Moving.{HasCause, IsMoved, IsStart, LeavesUnfinished}
+use Rattle.lab_move.specs.Moving.{HasCause, IsMoved, IsStart, Lasts, LeavesUnfinished}
+use Rattle.lab_move.specs.Owed.{AnswersOldOwed, MovesAsOwed}
 use Rattle.lab_move.specs.declared.faults.MoveFault.{MoveFault}
 use Rattle.lab_move.specs.declared.faults.MoveFault.TheVariants.{File, NotSound}
 use Rattle.lab_store_tables.specs.Rows.{Tables}
 use Rattle.lab_move_tables.specs.Reading.{PassesOver, ReadsOld}
+use Rattle.lab_move_tables.specs.declared.older.Older.{Older}
 use Rattle.lab_program_host.specs.TaskEnds.{TaskEnd}
 use Rattle.lab_program_opening.specs.declared.faults.OpenFault.{OpenFault}
 use Rattle.lab_program_opening.specs.declared.faults.OpenFault.TheVariants.{File as Unopened}
@@ -67,11 +69,14 @@ module _ (end : TaskEnd) where
 -- ---- what was made
 
 module _ {S : Type 0} (disk : Ghosts S) where
-  -- an old file that held this was found, and asked which schema it has; its rows are as they were
+  -- an old file that held this was found, and asked which schema it has: an older one, as it owes;
+  -- its rows are as they were
   abbrev pub IsAsked : (Trees → Type 0) → Held S → Type 0
   IsAsked IsHeld conn =
       (found : Held S) × Finds disk IsHeld found × PassesOver (state disk found) (state disk conn)
-      × (HasCleanDisk (state disk conn) → (state disk conn).now ≡ (state disk found).now)
+      × (older : Older) × (HasCleanDisk (state disk conn) →
+      ((state disk conn).now ≡ (state disk found).now)
+      × AnswersOldOwed (state disk found).now (Ok older))
 
   -- from this old file its laboratories came into this new one, in which nothing was: what `migrate`
   -- of `lab_move` says, however it ended
@@ -96,16 +101,25 @@ module _ {S : Type 0} (disk : Ghosts S) where
     pub unfinished : LeavesUnfinished disk (state disk old) (state disk left) result
         (state disk new) (state disk made)
 
+  -- and its answer is right: a refusal is told exactly where it is owed, unless a store failed, and
+  -- what was made lasts
+  pub record AnswersRightly (old new : Held S) (result : Result ℕ MoveFault)
+      (moves : Moves old new result) : Type 0 where
+    pub owed : MovesAsOwed (state disk old) (state disk moves.left) (state disk new) result
+    pub durable : HasCleanDisk (state disk moves.made) → OnOk result
+        (Lasts (state disk old) (state disk moves.left) (state disk moves.made))
+
   -- so it was; and what is left to be closed is the new file as it was left
   abbrev pub MovesTo : (old new : Held S) → Result ℕ MoveFault → Option (Held S) → Type 0
   MovesTo old new ending finished =
-      (moves : Moves old new ending) × (finished ≡ Some moves.made)
+      (moves : Moves old new ending) × AnswersRightly old new ending moves
+      × (finished ≡ Some moves.made)
 
   module _ (IsHeld : Trees → Type 0) (IsNew : Held S → Type 0) where
     -- both files were opened
     abbrev pub MovesBetween : Result ℕ MoveFault → Type 0
     MovesBetween result = (old : Held S) × (new : Held S) × IsAsked IsHeld old × IsNew new
-        × Moves old new result
+        × (moves : Moves old new result) × AnswersRightly old new result moves
 
     -- the task `migrate`, by its status, what was printed and what was told
     pub record IsMigration (end : TaskEnd) : Type 0 where

@@ -6,6 +6,7 @@ use Rattle.lab_store_read.proofs.Queries.{if_then}
 use Rattle.lab_move.specs.OldFiles.{Names}
 use Rattle.lab_move.proofs.OldVerdicts.{any_ok, names_so}
 use Rattle.lab_move.proofs.Causes.{old_cause, made_cause, made_untouched, made_taken}
+use Rattle.lab_move.proofs.MoveOwed.{made_free, made_moves, refused_moves}
 use Rattle.lab_move.proofs.moving.begin.Goals as goal
 
 pub returns-in-Ok-clause-reads : goal.returns-in-Ok-clause-reads
@@ -42,3 +43,17 @@ returns-in-Ok-clause-older g c clean =
     let older = c.in-Ok.older in
     let named = names_so old mid older (c.in-Ok.ensures.answer clean) in
     if_then c.make_for.result (λ one same. subst (λ it. Names it old.now) (sym same) named) c.make_for.ensures.is
+
+pub returns-in-Ok-clause-opened : goal.returns-in-Ok-clause-opened
+returns-in-Ok-clause-opened g c =
+    made_free (state g.S.Store c.args.old.now.conn) (state g.S.Store c.open_old.new.file.conn) (state g.T.Store c.args.new.now) c.in-Ok.older c.in-Ok.ensures.owed
+    c.make_for.result c.make_for.ensures.is c.make_for.ensures.taken
+
+pub returns-in-Ok-clause-owed : goal.returns-in-Ok-clause-owed
+returns-in-Ok-clause-owed g c =
+    made_moves (state g.S.Store c.args.old.now.conn) (state g.S.Store c.open_old.new.file.conn) (state g.T.Store c.args.new.now) c.in-Ok.older c.in-Ok.ensures.owed
+    c.make_for.result c.make_for.ensures.fault c.make_for.ensures.not_empty
+
+pub returns-in-Err-clause-owed : goal.returns-in-Err-clause-owed
+returns-in-Err-clause-owed g c =
+    refused_moves (state g.S.Store c.args.old.now.conn) (state g.S.Store c.open_old.new.file.conn) (state g.T.Store c.args.new.now) c.in-Err.fault c.in-Err.ensures.owed

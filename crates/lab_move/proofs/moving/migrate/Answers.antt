@@ -4,10 +4,11 @@ use Rattle.lab_store_tables.specs.Ready.{tables_of}
 use Rattle.lab_move_tables.specs.Standing.{StandsBy}
 use Rattle.lab_move_tables.proofs.OldReaders.{by_schema, may_then, may_end, reads_bare}
 use Rattle.lab_move.proofs.AllLabs.{read_on}
-use Rattle.lab_move.proofs.Ends.{unbegun, left_unfinished, started, whole_now}
+use Rattle.lab_move.proofs.Ends.{lasting, unbegun, left_unfinished, started, whole_now}
 use Rattle.lab_move.proofs.CountedFiles.{begun_open, counted_since}
 use Rattle.lab_move.proofs.Causes.{filled_cause, filled_late, all_moved}
 use Rattle.lab_move.specs.OldFiles.{StandsFor}
+use Rattle.lab_move.proofs.MoveOwed.{blamed_since, filled_moves}
 use Rattle.lab_move.proofs.OldVerdicts.{stands_by}
 use Rattle.lab_move.proofs.moving.migrate.Goals as goal
 
@@ -75,3 +76,22 @@ returns-in-Err-clause-unfinished g c blank =
 
 pub fill-requires : goal.fill-requires
 fill-requires g c = record { at_rest = c.in-Ok.ensures.begun.once.at_rest }
+
+pub returns-in-Ok-clause-owed : goal.returns-in-Ok-clause-owed
+returns-in-Ok-clause-owed g c =
+    let before = state g.S.Store c.args.old.now.conn in
+    let mid = state g.S.Store c.begin.new.old.conn in
+    let after = state g.S.Store c.fill.new.old.conn in
+    filled_moves before after (state g.T.Store c.args.new.now) c.in-Ok.older c.fill.result (λ late. c.in-Ok.ensures.opened (c.fill.ensures.reads.passes.clean late))
+    (λ t file late. (read_on (by_schema c.in-Ok.ensures.reads) c.fill.ensures.reads).answer t (stands_by c.in-Ok.older before.now (c.in-Ok.ensures.older (c.fill.ensures.reads.passes.clean late)) t file) late)
+    (blamed_since (StandsBy c.in-Ok.older) before mid after c.fill.result (λ late. c.in-Ok.ensures.reads.shows (c.fill.ensures.reads.passes.clean late))
+    (λ late. stands_by c.in-Ok.older before.now (c.in-Ok.ensures.older (c.fill.ensures.reads.passes.clean late))) c.fill.ensures.fault)
+
+pub returns-in-Ok-clause-durable : goal.returns-in-Ok-clause-durable
+returns-in-Ok-clause-durable g c blank clean =
+    let before = state g.S.Store c.args.old.now.conn in
+    let mid = state g.S.Store c.begin.new.old.conn in
+    let after = state g.S.Store c.fill.new.old.conn in
+    lasting g.T.Store g.met.T.Store.stays g.met.T.Store.settled before after c.fill.new.new c.fill.result c.fill.ensures.fills.at_rest clean
+    (whole_now g.T.Store blank c.in-Ok.ensures.begun before mid after (λ late. c.in-Ok.ensures.reads.shows (c.fill.ensures.reads.passes.clean late))
+    (λ late. stands_by c.in-Ok.older before.now (c.in-Ok.ensures.older (c.fill.ensures.reads.passes.clean late))) c.fill.ensures.fills clean)

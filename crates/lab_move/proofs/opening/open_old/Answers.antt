@@ -1,10 +1,11 @@
-use Rattle.std.proofs.Common.{◌≡◌, inl, inr, Err, ap, sym, ◌∙◌, rules, true, false}
+use Rattle.std.proofs.Common.{◌≡◌, inl, inr, Err, refl, ap, sym, ◌∙◌, rules, true, false}
 use Rattle.sqlite_schema.specs.declared.schema.Schema.{Schema}
 use Rattle.sqlite.specs.Held.{state}
 use Rattle.lab_store_files.specs.Schemas.{has_number}
 use Rattle.lab_move_tables.proofs.OldReaders.{may_and, may_end}
 use Rattle.lab_move.specs.OldFiles.{old_verdict}
 use Rattle.lab_move.proofs.OldVerdicts.{ours_named, ours_taken, not_taken, verdict_at, failed_in, not_empty_in, any_ok, none_asked}
+use Rattle.lab_move.proofs.OldOwed.{failed_answered, named_answered, unnamed_answered}
 use Rattle.lab_move.proofs.opening.open_old.Goals as goal
 
 pub returns-then-not-has_number-clause-ours : goal.returns-then-not-has_number-clause-ours
@@ -50,3 +51,24 @@ returns-in-Err-clause-reads g c = may_end c.in-Err.ensures.reads (Err c.in-Err.f
 
 pub returns-in-Err-clause-fault : goal.returns-in-Err-clause-fault
 returns-in-Err-clause-fault g c = not_empty_in c.in-Err.fault c.in-Err.ensures.fault
+
+pub returns-then-not-has_number-clause-owed : goal.returns-then-not-has_number-clause-owed
+returns-then-not-has_number-clause-owed g c clean =
+    let old = state g.S.Store c.args.file.now.conn in
+    let unnamed : has_number old.now.schema ≡ false = search rules in
+    unnamed_answered old.now _ unnamed refl
+
+pub returns-in-Ok-clause-owed : goal.returns-in-Ok-clause-owed
+returns-in-Ok-clause-owed g c clean =
+    let old = state g.S.Store c.args.file.now.conn in
+    let new = state g.S.Store c.number_rows.new.tables.conn in
+    let rows = c.in-Ok.rows.items in
+    let named : has_number old.now.schema ≡ true = search rules in
+    let is = c.verdict.ensures ∙ ap (λ (s : Schema). old_verdict s c.deref.result.now) c.schema-in-Ok.ensures.value ∙ ap (old_verdict new.now.schema) c.deref.ensures.value in
+    named_answered old new rows c.verdict.result named (c.in-Ok.ensures.shown clean) (verdict_at old new rows c.verdict.result (c.in-Ok.ensures.reads.shows clean) is)
+
+pub returns-in-Err-clause-owed : goal.returns-in-Err-clause-owed
+returns-in-Err-clause-owed g c clean =
+    let old = state g.S.Store c.args.file.now.conn in
+    let named : has_number old.now.schema ≡ true = search rules in
+    failed_answered old.now _ named (failed_in c.in-Err.fault c.in-Err.ensures.fault)

@@ -18,5 +18,9 @@ returns g c = (
     old_same = c.migrate-ending.ensures.old_same;
     unfinished = c.migrate-ending.ensures.unfinished c.requires.blank;
   },
+  record {
+    owed = c.migrate-ending.ensures.owed;
+    durable = c.migrate-ending.ensures.durable c.requires.blank;
+  },
   ap Some c.new.ensures,
 )

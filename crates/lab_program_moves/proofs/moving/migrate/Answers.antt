@@ -27,6 +27,7 @@ returns-in-Ok-close g c =
         c.in-Ok.ensures,
         (c.old_file.new.volume, c.in-Ok-open_new.ensures.blank),
         moves.0,
+        moves.1,
       );
       told = c.print.ensures;
     }
@@ -41,6 +42,7 @@ returns-in-Err-close g c =
         c.in-Ok.ensures,
         (c.old_file.new.volume, c.in-Ok-open_new.ensures.blank),
         moves.0,
+        moves.1,
       );
       told = (Keeps-refl _, c.decline_move.ensures);
     }
