@@ -16,7 +16,7 @@ use Rattle.lab_move.specs.declared.faults.MoveFault.TheVariants.{File, NotSound}
 use Rattle.lab_move.specs.Faults.{IsOfStore}
 use Rattle.lab_move.specs.Moving.{AreCounted, BlamesFirstOfAll}
 use Rattle.lab_move.specs.OldFiles.{StandsFor}
-use Rattle.lab_move.specs.Owed.{AnswersOldOwed, FailedInMove, IsMoveOwed, IsOfOlder, IsStoreFault, MayOpenOld, MayStopOld, MovesAsOwed, OpensOld, StopsAt, StopsOld, has_tables}
+use Rattle.lab_move.specs.Owed.{AnswersOldOwed, FailedInMove, IsMoveOwed, IsOfOlder, IsStoreFault, MayOpenOld, MovesAsOwed, OpensOld, StopsAt, StopsInAll, StopsInSome, has_tables}
 use Rattle.lab_move.proofs.OldOwed.{one_owed}
 use Rattle.lab_move.proofs.OneLab.{errs_as}
 use Rattle.lab_move.proofs.FirstUnsound.{first_is_least, none_unsound, one_least}
@@ -40,10 +40,10 @@ err_ok fault older e = cc
 
 module _ (old fresh : Database) where
   abbrev MayOwe : MoveFault → Type 0
-  MayOwe = IsMoveOwed MayOpenOld MayStopOld old fresh
+  MayOwe = IsMoveOwed MayOpenOld StopsInAll old fresh
 
   abbrev Owes : MoveFault → Type 0
-  Owes = IsMoveOwed OpensOld StopsOld old fresh
+  Owes = IsMoveOwed OpensOld StopsInSome old fresh
 
   -- what was told of it
   may_owe : (fault : FileFault) → MayOpenOld old (Err fault) → MayOwe (File fault) ⊎ IsStoreFault (File fault)
@@ -74,7 +74,7 @@ module _ (old fresh : Database) where
     ]
 
     -- where it owed that it is one of an older schema
-    by_older : {A : Type 0} (due : MoveFault) → IsOfOlder OpensOld StopsOld old fresh → ◌≡◌ {A = Result A MoveFault} (Err (File fault)) (Err due) ⊎ FailedInMove {A = A} (Err (File fault))
+    by_older : {A : Type 0} (due : MoveFault) → IsOfOlder OpensOld StopsInSome old fresh → ◌≡◌ {A = Result A MoveFault} (Err (File fault)) (Err due) ⊎ FailedInMove {A = A} (Err (File fault))
     by_older due it = elim (answers.owed (Ok it.0) it.1) [ inl e ↦ absurd (err_ok fault it.0 e) | inr failed ↦ inr (move_failed fault failed) ]
 
     refused_owed : {A : Type 0} (due : MoveFault) → Owes due → ◌≡◌ {A = Result A MoveFault} (Err (File fault)) (Err due) ⊎ FailedInMove {A = A} (Err (File fault))
@@ -89,7 +89,7 @@ module _ (old fresh : Database) where
   -- ---- the old file is one of an older schema
 
   module _ (older : Older) (answers : AnswersOldOwed old (Ok older)) where
-    of_older : IsOfOlder MayOpenOld MayStopOld old fresh
+    of_older : IsOfOlder MayOpenOld StopsInAll old fresh
     of_older = elim answers.told [ inl it ↦ (older, it) | inr failed ↦ absurd (ok_failed older failed) ]
 
     not_refused : (due : FileFault) → ¬ OpensOld old (Err due)
@@ -108,7 +108,7 @@ module _ (old fresh : Database) where
 
     -- it isn't
     module _ {A : Type 0} (free : is_taken fresh.schema ≡ false) (r : Result A MoveFault)
-        (stops : (lab : List ℕ) → StopsOld old lab → (r ≡ Err (NotSound lab)) ⊎ FailedInMove r) where
+        (stops : (lab : List ℕ) → StopsInSome old lab → (r ≡ Err (NotSound lab)) ⊎ FailedInMove r) where
       pub free_owed : (due : MoveFault) → Owes due → (r ≡ Err due) ⊎ FailedInMove r
       free_owed (File NotADeskFile) it = absurd (not_refused NotADeskFile it)
       free_owed (File (SchemaOld n)) it = absurd (not_refused (SchemaOld n) it)
@@ -174,13 +174,13 @@ filled_moves before after fresh older r begun counted blamed = record {
 }
   where
     go : HasCleanDisk after → (end : Result ℕ MoveFault) → IfErr end (BlamesFirstOfAll StandsFor before after)
-        → IfErr end (λ fault. IsMoveOwed MayOpenOld MayStopOld before.now fresh.now fault ⊎ IsStoreFault fault)
+        → IfErr end (λ fault. IsMoveOwed MayOpenOld StopsInAll before.now fresh.now fault ⊎ IsStoreFault fault)
     go clean (Ok count) h = tt
     go clean (Err (File fault)) h = inr (of_store_move fault h)
     go clean (Err (NotSound lab)) h = let it = begun clean in inl (of_older before.now fresh.now older it.0, it.1, λ t stands. first_is_least t lab (h t (stands, clean)))
 
     stops : HasCleanDisk after → (end : Result ℕ MoveFault) → ((t : Tables) → StandsFor before.now t → HasCleanDisk after → IfOk end (AreCounted (codes_of t) t))
-        → IfErr end (BlamesFirstOfAll StandsFor before after) → (lab : List ℕ) → StopsOld before.now lab → (end ≡ Err (NotSound lab)) ⊎ FailedInMove end
+        → IfErr end (BlamesFirstOfAll StandsFor before after) → (lab : List ℕ) → StopsInSome before.now lab → (end ≡ Err (NotSound lab)) ⊎ FailedInMove end
     stops clean (Ok count) counts h lab it = absurd (none_unsound it.0 (counts it.0 it.1 clean).1 lab it.2.unsound)
     stops clean (Err (File fault)) counts (inl e) lab it = inr (inl (ap (λ one. Err (File one)) e))
     stops clean (Err (File fault)) counts (inr e) lab it = inr (inr (ap (λ one. Err (File one)) e))

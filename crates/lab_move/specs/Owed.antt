@@ -71,13 +71,13 @@ pub record StopsAt (t : Tables) (code : List ℕ) : Type 0 where
   pub unsound : IsUnsoundIn t code
   pub least : (other : List ℕ) → IsUnsoundIn t other → precedes other code ≡ false
 
--- in whichever tables for which the old file stands
-abbrev pub StopsOld : Database → List ℕ → Type 0
-StopsOld db code = (t : Tables) × StandsFor db t × StopsAt t code
+-- in some tables for which the old file stands
+abbrev pub StopsInSome : Database → List ℕ → Type 0
+StopsInSome db code = (t : Tables) × StandsFor db t × StopsAt t code
 
 -- in all tables for which it stands
-abbrev pub MayStopOld : Database → List ℕ → Type 0
-MayStopOld db code = (t : Tables) → StandsFor db t → StopsAt t code
+abbrev pub StopsInAll : Database → List ℕ → Type 0
+StopsInAll db code = (t : Tables) → StandsFor db t → StopsAt t code
 
 -- ---- what a move owes
 
@@ -108,8 +108,8 @@ pub record MovesAsOwed (before after fresh : State) {A : Type 0} (result : Resul
     : Type 0 where
   -- a refusal is owed, by what the old file shows, or it is the store's
   pub told : HasCleanDisk after → IfErr result (λ fault.
-      IsMoveOwed MayOpenOld MayStopOld before.now fresh.now fault ⊎ IsStoreFault fault)
+      IsMoveOwed MayOpenOld StopsInAll before.now fresh.now fault ⊎ IsStoreFault fault)
   -- what is owed is told, unless the store failed
   pub owed : HasCleanDisk after → (due : MoveFault)
-      → IsMoveOwed OpensOld StopsOld before.now fresh.now due
+      → IsMoveOwed OpensOld StopsInSome before.now fresh.now due
       → (result ≡ Err due) ⊎ FailedInMove result

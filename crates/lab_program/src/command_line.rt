@@ -12,7 +12,7 @@ use crate::copies::check_for;
 use crate::laboratories::{copy_for, found_for, rehearse_for};
 use lab_forms_streams::WriteFault;
 use lab_program_app::explain;
-use lab_program_files::{Closing, Progress, Trouble, Volume, serve};
+use lab_program_files::{Closable, Progress, Trouble, Volume, serve};
 use lab_program_host::{Chance, Clock, Host};
 use lab_program_moves::migrate;
 use lab_program_replay::replay;
@@ -31,7 +31,7 @@ fn do_task<N: Net, H: Volume, C: Clock, X: Chance, P: Progress, R: Read + Drop, 
     errors: &mut E,
 ) -> Result<u8, WriteFault>
 where
-    Connection<H::Disk>: Closing,
+    Connection<H::Disk>: Closable,
     ensures { (asked : Asked) → IsTask task.entry asked →
         IsDone H.Disk.Store H.holds host.old.volume
         (drawing_of (C.coming host.old.clock) (C.coming host.new.clock)
@@ -85,7 +85,7 @@ pub fn labdesk<
     errors: &mut E,
 ) -> Result<u8, WriteFault>
 where
-    Connection<H::Disk>: Closing,
+    Connection<H::Disk>: Closable,
     ensures done { (asked : Asked) → AsksTask asked (map S.text words.now) →
         IsDone H.Disk.Store H.holds host.old.volume
         (drawing_of (C.coming host.old.clock) (C.coming host.new.clock)

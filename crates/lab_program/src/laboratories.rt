@@ -11,7 +11,7 @@ ghost use Rattle.lab_program.specs.Laboratories.{IsCopied, IsCopiedIf, IsFounded
 use lab_forms_streams::WriteFault;
 use lab_forms_texts::{LabCode, Moment, Ordinal};
 use lab_program_app::explain_order;
-use lab_program_files::{Closing, Progress, Trouble, Volume, copy, found};
+use lab_program_files::{Closable, Progress, Trouble, Volume, copy, found};
 use lab_program_host::{Chance, Clock, Host, tell};
 use lab_program_replay::{LimitedReader, MOST_ASKS};
 use lab_program_serve::rehearse;
@@ -53,7 +53,7 @@ pub fn found_for<N, H: Volume, C: Clock, X: Chance, P, R: Read + Drop, W: Write,
     errors: &mut E,
 ) -> Result<u8, WriteFault>
 where
-    Connection<H::Disk>: Closing,
+    Connection<H::Disk>: Closable,
     ensures { IsFounded H.Disk.Store (H.holds host.old.volume file.now) (record {
       drawing = drawing_of (C.coming host.old.clock) (C.coming host.new.clock)
           (X.coming host.old.chance) (X.coming host.new.chance);
@@ -97,7 +97,7 @@ fn copy_range<N, H: Volume, C: Clock, X, P: Progress, W: Write, E: Write>(
     errors: &mut E,
 ) -> Result<u8, WriteFault>
 where
-    Connection<H::Disk>: Closing,
+    Connection<H::Disk>: Closable,
     ensures { IsCopied H.Disk.Store (H.holds host.old.volume file.now) (record {
       moments = C.coming host.old.clock;
       later = C.coming host.new.clock;
@@ -138,7 +138,7 @@ pub fn copy_for<N, H: Volume, C: Clock, X, P: Progress, W: Write, E: Write>(
     errors: &mut E,
 ) -> Result<u8, WriteFault>
 where
-    Connection<H::Disk>: Closing,
+    Connection<H::Disk>: Closable,
     ensures { IsTrue (is_ordinal from) → IsTrue (is_ordinal to) →
         IsCopiedIf H.Disk.Store (H.holds host.old.volume file.now) (record {
           moments = C.coming host.old.clock;

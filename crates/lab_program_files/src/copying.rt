@@ -10,7 +10,7 @@ use lab_forms_streams::WriteFault;
 use lab_forms_texts::{LabCode, Ordinal};
 use lab_program_host::{Clock, Host};
 use lab_program_opening::{
-    Closing, Ended, Finished, OpenFault, Trouble, Volume, decline, decline_to_open, open_file,
+    Closable, Ended, Finished, OpenFault, Trouble, Volume, decline, decline_to_open, open_file,
 };
 use lab_records_copy_out::{CopyOutFault, Progress, copy_out};
 use lab_store::{OneVersionAtATime, Store};
@@ -28,7 +28,7 @@ fn copy_file<N, H: Volume, C: Clock, X, P: Progress, W: Write>(
     output: &mut W,
 ) -> Ended<Result<Result<(), CopyOutFault>, OpenFault>, H::Disk>
 where
-    Connection<H::Disk>: Closing,
+    Connection<H::Disk>: Closable,
     ensures copies { IfOk result.ending (λ ending. CopiesTo (file_keeper H.Disk.Store) (record {
       moments = C.coming host.old.clock;
       later = C.coming host.new.clock;
@@ -93,7 +93,7 @@ pub fn copy<N, H: Volume, C: Clock, X, P: Progress, W: Write, E: Write>(
     errors: &mut E,
 ) -> Result<u8, WriteFault>
 where
-    Connection<H::Disk>: Closing,
+    Connection<H::Disk>: Closable,
     ensures { IsCopying (file_keeper H.Disk.Store) (record {
       moments = C.coming host.old.clock;
       later = C.coming host.new.clock;

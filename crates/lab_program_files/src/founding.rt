@@ -16,7 +16,7 @@ use lab_forms_streams::{WriteFault, write_whole};
 use lab_forms_texts::{LabCode, OutOfMemory, Tick};
 use lab_program_host::{Chance, Clock, FoundFault, Host, ServerFault, draw, read_all};
 use lab_program_opening::{
-    Closing, Ended, Finished, FoundingFault, OpenFault, Trouble, Volume, decline, decline_to_open,
+    Closable, Ended, Finished, FoundingFault, OpenFault, Trouble, Volume, decline, decline_to_open,
     make_file,
 };
 use lab_program_serve::{Desk, Keeper};
@@ -135,7 +135,7 @@ fn found_in_file<N, H: Volume, C: Clock, X: Chance, P, B: Read, W: Write>(
     output: &mut W,
 ) -> Ended<Result<Result<(), FoundingFault>, OpenFault>, H::Disk>
 where
-    Connection<H::Disk>: Closing,
+    Connection<H::Disk>: Closable,
     ensures ends { IfOk result.ending (λ ending. EndsAs (file_keeper H.Disk.Store) (record {
       drawing = drawing_of (C.coming host.old.clock) (C.coming host.new.clock)
           (X.coming host.old.chance) (X.coming host.new.chance);
@@ -187,7 +187,7 @@ pub fn found<N, H: Volume, C: Clock, X: Chance, P, B: Read, W: Write, E: Write>(
     errors: &mut E,
 ) -> Result<u8, WriteFault>
 where
-    Connection<H::Disk>: Closing,
+    Connection<H::Disk>: Closable,
     ensures { IsFounding (file_keeper H.Disk.Store) (record {
       drawing = drawing_of (C.coming host.old.clock) (C.coming host.new.clock)
           (X.coming host.old.chance) (X.coming host.new.chance);

@@ -1,6 +1,6 @@
 //! Who opens the file at a path, and opens it anew.
 
-use lab_program_opening::{Closing, Finished, OpenFault, Volume, open_file};
+use lab_program_opening::{Closable, Finished, OpenFault, Volume, open_file};
 use lab_program_serve::Opener;
 use lab_records_keeper::{BadStore, KeeperFault};
 use lab_store::Store;
@@ -25,7 +25,7 @@ impl<'a> FileOpener<'a> {
 /// over, since nothing is lost by it.
 pub fn close_uncut<H: Volume>(volume: &mut H, path: &str, finished: Finished<H::Disk>)
 where
-    Connection<H::Disk>: Closing,
+    Connection<H::Disk>: Closable,
 {
     if volume.is_cut(path) {
         finished.let_go();
@@ -45,7 +45,7 @@ fn opening_fault(fault: OpenFault) -> KeeperFault {
 
 impl<'a, H: Volume> Opener<H, Store<H::Disk>> for FileOpener<'a>
 where
-    Connection<H::Disk>: Closing,
+    Connection<H::Disk>: Closable,
 {
     ghost use Rattle.lab_program_opening.specs.Files.{IsOursAnywhere};
 

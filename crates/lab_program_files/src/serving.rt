@@ -11,7 +11,7 @@ use crate::opening::{FileOpener, close_uncut};
 use lab_forms_streams::WriteFault;
 use lab_program_host::{Chance, Clock, Host, ServerFault};
 use lab_program_opening::{
-    Additions, Closing, Ended, Finished, OpenFault, Trouble, Volume, decline, decline_by,
+    Additions, Closable, Ended, Finished, OpenFault, Trouble, Volume, decline, decline_by,
     decline_to_open, open_file,
 };
 use lab_program_serve::{Desk, LiveDesk, listen};
@@ -28,7 +28,7 @@ fn live_desk_opened<'p, H: Volume>(
     path: &'p str,
 ) -> Result<LiveDesk<Store<H::Disk>, FileOpener<'p>>, OpenFault>
 where
-    Connection<H::Disk>: Closing,
+    Connection<H::Disk>: Closable,
     ensures { IfOk result (λ live_desk. IsSomeAnd live_desk (λ desk.
         IsOurs H.Disk.Store (H.holds volume.old path.now) desk.keeper)) }
 {
@@ -79,7 +79,7 @@ fn serve_file<N: Net, H: Volume, C: Clock, X: Chance, P, W: Write, E: Write>(
     errors: &mut E,
 ) -> Ended<Result<u8, WriteFault>, H::Disk>
 where
-    Connection<H::Disk>: Closing,
+    Connection<H::Disk>: Closable,
     ensures { ServesAs (file_keeper H.Disk.Store)
         (IsOurs H.Disk.Store (H.holds host.old.volume path.now))
         (IsOursAnywhere H.Disk.Store H.holds)
@@ -132,7 +132,7 @@ pub fn serve<N: Net, H: Volume, C: Clock, X: Chance, P, W: Write, E: Write>(
     errors: &mut E,
 ) -> Result<u8, WriteFault>
 where
-    Connection<H::Disk>: Closing,
+    Connection<H::Disk>: Closable,
     ensures { ServesFile (file_keeper H.Disk.Store)
         (IsOurs H.Disk.Store (H.holds host.old.volume path.now))
         (IsOursAnywhere H.Disk.Store H.holds)

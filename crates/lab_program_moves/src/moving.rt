@@ -13,7 +13,7 @@ use lab_forms_texts::{LabCode, OutOfMemory};
 use lab_move::{MoveFault, MoveProgress, OldFile};
 use lab_program_host::{Host, ServerFault, tell};
 use lab_program_opening::{
-    Closing, Ended, Finished, OpenFault, Trouble, Volume, decline, decline_by, open_new, open_old,
+    Closable, Ended, Finished, OpenFault, Trouble, Volume, decline, decline_by, open_new, open_old,
 };
 use sqlite::Connection;
 use std::alloc::Global;
@@ -168,7 +168,7 @@ pub fn migrate<N, H: Volume, C, X, P, W: Write, E: Write>(
     errors: &mut E,
 ) -> Result<u8, WriteFault>
 where
-    Connection<H::Disk>: Closing,
+    Connection<H::Disk>: Closable,
     ensures { IsMigration H.Disk.Store (H.holds host.old.volume old.now)
         (IsBlankAt H.Disk.Store H.holds new.now) (record {
           before = W.contents output.old;

@@ -7,7 +7,7 @@ use sqlite::{Alter, Connection, Error, FileFrom, FileStore, MemStore, Start};
 use std::marker::Model;
 
 /// What can be closed.
-pub trait Closing {
+pub trait Closable {
     /// What closing comes to, by how it ended.
     ghost closes: { Self → Result (Unit {0}) CloseError → Type 0 };
 
@@ -17,7 +17,7 @@ pub trait Closing {
         ensures { closes self result };
 }
 
-impl<S: Start> Closing for Connection<FileStore<FileFrom<S>>> {
+impl<S: Start> Closable for Connection<FileStore<FileFrom<S>>> {
     ghost use Rattle.lab_program_opening.specs.Ends.{Closes};
 
     ghost closes = { λ conn ending. Closes conn ending };
@@ -36,7 +36,7 @@ impl<S: Start> Closing for Connection<FileStore<FileFrom<S>>> {
     }
 }
 
-impl Closing for Connection<MemStore> {
+impl Closable for Connection<MemStore> {
     ghost closes = { λ _ _. Unit {0} };
 
     fn close_whole(self) -> Result<(), Error> {
@@ -74,8 +74,8 @@ impl<S: Alter> Finished<S> {
     /// The store failed: the file and its log hold together what was committed.
     pub fn close(self) -> Result<(), Error>
     where
-        Connection<S>: Closing,
-        ensures { ⟦<Connection<S> as Closing>⟧.closes self result }
+        Connection<S>: Closable,
+        ensures { ⟦<Connection<S> as Closable>⟧.closes self result }
     {
         let Finished { conn } = self;
         conn.close_whole()
@@ -102,10 +102,10 @@ impl<T, S: Alter> Ended<T, S> {
     /// since nothing is lost by it.
     pub fn close(self) -> T
     where
-        Connection<S>: Closing,
+        Connection<S>: Closable,
         ensures ending { result ≡ self.ending }
         ensures closed { IfSome self.finished (λ conn. (closing : Result (Unit {0}) CloseError)
-            × ⟦<Connection<S> as Closing>⟧.closes conn closing) }
+            × ⟦<Connection<S> as Closable>⟧.closes conn closing) }
     {
         let Ended { ending, finished } = self;
         match finished {

@@ -6,7 +6,7 @@ ghost use Rattle.lab_store_tables.specs.Ready.{IsAtRest};
 ghost use Rattle.lab_store_files.specs.NewFiles.{IsBlank, no_schema};
 ghost use Rattle.lab_program_opening.specs.Files.{Finds, IsBlankFile, IsNewFrom, IsOpened, IsOurs, IsOursFrom};
 
-use crate::ends::Closing;
+use crate::ends::Closable;
 use crate::faults::OpenFault;
 use crate::volumes::Volume;
 use lab_store_files::{FileFault, create, open};
@@ -25,7 +25,7 @@ pub fn open_file<H: Volume>(
     path: &str,
 ) -> Result<Connection<H::Disk>, OpenFault>
 where
-    Connection<H::Disk>: Closing,
+    Connection<H::Disk>: Closable,
     ensures at_rest { IfOk result (λ conn. IsAtRest (state H.Disk.Store conn)) }
     ensures ours { IfOk result (IsOurs H.Disk.Store (H.holds volume.old path.now)) }
 {
@@ -43,7 +43,7 @@ fn opened_connection<H: Volume>(
     conn: Connection<H::Disk>,
 ) -> Result<Connection<H::Disk>, OpenFault>
 where
-    Connection<H::Disk>: Closing,
+    Connection<H::Disk>: Closable,
     requires { IsAtRest (state H.Disk.Store conn) }
     ensures at_rest { IfOk result (λ conn. IsAtRest (state H.Disk.Store conn)) }
     ensures ours { IfOk result (IsOursFrom H.Disk.Store conn) }
@@ -62,7 +62,7 @@ where
 // A connection over which the tables of laboratories were made.
 fn made_connection<S: Alter>(mut conn: Connection<S>) -> Result<Connection<S>, OpenFault>
 where
-    Connection<S>: Closing,
+    Connection<S>: Closable,
     requires { IsAtRest (state S.Store conn) }
     ensures at_rest { IfOk result (λ conn. IsAtRest (state S.Store conn)) }
     ensures made { IfOk result (IsNewFrom S.Store conn) }
@@ -88,7 +88,7 @@ pub fn make_file<H: Volume>(
     path: &str,
 ) -> Result<Connection<H::Disk>, OpenFault>
 where
-    Connection<H::Disk>: Closing,
+    Connection<H::Disk>: Closable,
     ensures at_rest { IfOk result (λ conn. IsAtRest (state H.Disk.Store conn)) }
     ensures opened { IfOk result (IsOpened H.Disk.Store (H.holds volume.old path.now)) }
 {

@@ -12,7 +12,7 @@ mod trouble;
 mod volumes;
 
 pub use crate::additions::Additions;
-pub use crate::ends::{Closing, Ended, Finished};
+pub use crate::ends::{Closable, Ended, Finished};
 pub use crate::faults::{FoundingFault, OpenFault};
 pub use crate::files::{make_file, open_file, open_new, open_old};
 pub use crate::telling::{decline, decline_by, decline_to_open};

@@ -6,12 +6,12 @@ ghost use Rattle.lab_program_host.specs.Sources.{GivesInOrder};
 use lab_program_host::ListenFault;
 use std::io::{Read, Write};
 
-/// A connection: what its client sends, and what goes to its client.
+/// A client: what it sends, and what goes to it.
 #[derive(Drop)]
-pub struct Connection<R, W> {
-    /// What the client sends.
+pub struct Client<R, W> {
+    /// What it sends.
     pub reader: R,
-    /// What goes to the client.
+    /// What goes to it.
     pub writer: W,
 }
 
@@ -35,7 +35,7 @@ pub trait Connections {
         ensures { result ≡ listens_at self.now };
 
     /// Takes the next connection, for which it waits.
-    fn accept(&mut self) -> Result<Connection<Self::Reader, Self::Writer>, ListenFault>
+    fn accept(&mut self) -> Result<Client<Self::Reader, Self::Writer>, ListenFault>
         ensures given { IfOk result (λ connection. GivesInOrder (coming self.old) (coming self.new)
             (Self.Reader.remaining connection.reader ∷ [])) };
 }

@@ -13,7 +13,7 @@ mod runs;
 mod serving;
 mod shut;
 
-pub use connections::{Connection, Connections};
+pub use connections::{Client, Connections};
 pub use lab_desk::{Desk, Keeper};
 pub use lab_forms_streams::WriteFault;
 pub use lab_forms_texts::{LabCode, Moment};

@@ -8,7 +8,7 @@ ghost use Rattle.lab_program_host.specs.Sources.{drawing_of};
 ghost use Rattle.lab_program_serve.specs.Times.{ServesTimes};
 ghost use Rattle.lab_program_serve.specs.Visits.{listened};
 
-use crate::connections::{Connection, Connections};
+use crate::connections::{Client, Connections};
 use crate::live_desks::LiveDesk;
 use crate::openings::Opener;
 use crate::serving::serve_over;
@@ -103,7 +103,7 @@ where
 {
     // Both ends of the next stream; none where its connection was lost, or where the system has no
     // second handle of it, with which that connection ends.
-    fn next_ends(&self) -> Result<Option<Connection<L::Stream, L::Stream>>, ListenFault> {
+    fn next_ends(&self) -> Result<Option<Client<L::Stream, L::Stream>>, ListenFault> {
         match self.next_stream()? {
             Some(stream) => Ok(ends_of(stream).ok()),
             None => Ok(None),
@@ -141,7 +141,7 @@ where
         self.port
     }
 
-    fn accept(&mut self) -> Result<Connection<L::Stream, L::Stream>, ListenFault> {
+    fn accept(&mut self) -> Result<Client<L::Stream, L::Stream>, ListenFault> {
         for _ in 0..MOST_LOST {
             if let Some(ends) = self.next_ends()? {
                 return Ok(ends);
@@ -152,11 +152,9 @@ where
 }
 
 // Both ends of a stream.
-fn ends_of<T: Read + Write + OpenStream + Drop>(
-    reader: T,
-) -> Result<Connection<T, T>, ListenFault> {
+fn ends_of<T: Read + Write + OpenStream + Drop>(reader: T) -> Result<Client<T, T>, ListenFault> {
     match reader.try_clone() {
-        Ok(writer) => Ok(Connection { reader, writer }),
+        Ok(writer) => Ok(Client { reader, writer }),
         Err(_) => Err(ListenFault),
     }
 }
@@ -183,10 +181,7 @@ pub fn listen<N: Net>(net: &N, port: u16) -> Result<N::Listener, ServerFault>
 ///
 /// # Errors
 /// The network gives none.
-pub fn connect<N: Net>(
-    net: &N,
-    port: u16,
-) -> Result<Connection<N::Stream, N::Stream>, ServerFault> {
+pub fn connect<N: Net>(net: &N, port: u16) -> Result<Client<N::Stream, N::Stream>, ServerFault> {
     match TcpStream::connect(net, loopback(port)) {
         Ok(stream) => Ok(ends_of(stream)?),
         Err(_) => Err(ServerFault::Read),

@@ -7,7 +7,7 @@ ghost use Rattle.lab_program_serve.specs.Rehearsals.{Forwards, IsFounded, IsServ
 ghost use Rattle.lab_program_serve.specs.Texts.{IsPrinted};
 ghost use Rattle.lab_program_serve.specs.Visits.{AreVisits, IsStill, Visit};
 
-use crate::{Connection, Connections, Desk, Keeper, serve_connection};
+use crate::{Client, Connections, Desk, Keeper, serve_connection};
 use lab_forms_streams::write_whole;
 use lab_forms_texts::{LabCode, Moment, OutOfMemory, Tick};
 use lab_program_host::{RehearsalFault, ServerFault, read_all};
@@ -95,7 +95,7 @@ pub fn rehearse_over<S: Keeper + Drop, A: Read, B: Write, L: Connections, W: Wri
     desk: &mut Desk<S>,
     lab: &LabCode,
     moment: Moment,
-    client: &mut Connection<A, B>,
+    client: &mut Client<A, B>,
     connections: &mut L,
     output: &mut W,
 ) -> Result<(), ServerFault>
@@ -113,7 +113,7 @@ pub fn rehearse_over<S: Keeper + Drop, A: Read, B: Write, L: Connections, W: Wri
     let request = request_bytes(alloc, lab)?;
     write_whole(&mut client.writer, request.as_slice())?;
     let connection = connections.accept()?;
-    let Connection { reader, mut writer } = connection;
+    let Client { reader, mut writer } = connection;
     serve_connection(alloc, desk, reader, &mut writer, &tick_at(moment))?;
     drop(writer);
     forward(alloc, &mut client.reader, output)

@@ -10,7 +10,7 @@ ghost use Rattle.lab_program_host.specs.Sources.{drawing_of};
 ghost use Rattle.lab_program_serve.specs.Times.{ServesTimes};
 ghost use Rattle.lab_program_serve.specs.Visits.{OnServed, OnUnserved, SendsReply};
 
-use crate::connections::{Connection, Connections};
+use crate::connections::{Client, Connections};
 use crate::live_desks::LiveDesk;
 use crate::openings::Opener;
 use lab_desk::{Desk, Keeper};
@@ -95,7 +95,7 @@ where
     for _ in 0..count {
         let connection = connections.accept()?;
         let tick = draw(&mut host.clock, &mut host.chance)?;
-        let Connection { reader, mut writer } = connection;
+        let Client { reader, mut writer } = connection;
         let _ = live_desk.visit(host.alloc, &mut host.volume, reader, &mut writer, &tick);
     }
     Ok(())
