@@ -12,7 +12,8 @@ use Rattle.lab_store_tables.specs.Meaning.{by_code, by_form, by_version, by_entr
 use Rattle.lab_move_tables.specs.declared.older.Older.{Older}
 use Rattle.lab_move_tables.specs.declared.older.Older.TheVariants.{Two}
 use Rattle.lab_move_tables.specs.OldRows.{old_tables, old_rounds, beside, reason_in}
-use Rattle.lab_move_tables.proofs.OldRowWords.{old_person_from, old_form_from, old_version_from, old_entry_from, old_signature_from}
+use Rattle.lab_store_tables.specs.Family.{Persons, Forms, Versions, Entries, Signatures, from_by}
+use Rattle.lab_move_tables.specs.Olders.{layout_of}
 use Rattle.lab_move_tables.specs.Standing.{AreLifted}
 use Rattle.lab_move_tables.specs.Owned.{own_persons, own_forms, own_versions, own_entries, own_signatures}
 
@@ -47,38 +48,6 @@ IsOldEntry one = reason_in (optional Text one.reason) ≡ one.reason
 abbrev pub IsOldSignature : SignatureRow → Type 0
 IsOldSignature one = reason_in (optional Text one.reason) ≡ one.reason
 
--- ---- of schema 2
-
-module _ (t : Tables) (of : AreLifted Two t) where
-  -- a fact on rows that are read of old ones
-  lifted_so : (P : Tables → Type 0) → P (old_tables Two of.0) → P t
-  lifted_so P it = subst P of.1 it
-
-  two_persons : (lab : ℤ) → AllByRecursion IsPersonOfTwo (own_persons t lab)
-  two_persons lab =
-      lifted_so (λ t. AllByRecursion IsPersonOfTwo (own_persons t lab))
-      (own_all IsPersonOfTwo old_person_from (λ row. record { rounds2 = refl; ask_rounds = refl }) (of.0 3) (λ one. int_eq one.lab lab) by_code)
-
-  two_forms : (lab : ℤ) → AllByRecursion IsFormOfTwo (own_forms t lab)
-  two_forms lab =
-      lifted_so (λ t. AllByRecursion IsFormOfTwo (own_forms t lab))
-      (own_all IsFormOfTwo old_form_from (λ row. refl) (of.0 8) (λ one. int_eq one.lab lab) by_form)
-
-  two_versions : (kept : ℤ) → AllByRecursion IsVersionOfTwo (own_versions t kept)
-  two_versions kept =
-      lifted_so (λ t. AllByRecursion IsVersionOfTwo (own_versions t kept))
-      (own_all IsVersionOfTwo old_version_from (λ row. record { format = refl; reason = reason_twice (column row 6) }) (of.0 18) (λ one. int_eq one.kept kept) by_version)
-
-  two_entries : (version : ℤ) → AllByRecursion IsOldEntry (own_entries t version)
-  two_entries version =
-      lifted_so (λ t. AllByRecursion IsOldEntry (own_entries t version))
-      (own_all IsOldEntry old_entry_from (λ row. reason_twice (column row 9)) (of.0 20) (λ one. int_eq one.version version) by_entry)
-
-  two_signatures : (version : ℤ) → AllByRecursion IsOldSignature (own_signatures t version)
-  two_signatures version =
-      lifted_so (λ t. AllByRecursion IsOldSignature (own_signatures t version))
-      (own_all IsOldSignature old_signature_from (λ row. reason_twice (column row 8)) (of.0 22) (λ one. int_eq one.version version) by_signature)
-
 -- ---- of each older schema
 
 abbrev pub IsOldPerson : Older → PersonRow → Type 0
@@ -90,20 +59,50 @@ IsOldForm Two = IsFormOfTwo
 abbrev pub IsOldVersion : Older → VersionRow → Type 0
 IsOldVersion Two = IsVersionOfTwo
 
-pub old_persons : (older : Older) (t : Tables) → AreLifted older t → (lab : ℤ) → AllByRecursion (IsOldPerson older) (own_persons t lab)
-old_persons Two = two_persons
+person_is : (older : Older) (row : Row) → IsOldPerson older (from_by (layout_of older) Persons row)
+person_is Two row = record { rounds2 = refl; ask_rounds = refl }
 
-pub old_forms : (older : Older) (t : Tables) → AreLifted older t → (lab : ℤ) → AllByRecursion (IsOldForm older) (own_forms t lab)
-old_forms Two = two_forms
+form_is : (older : Older) (row : Row) → IsOldForm older (from_by (layout_of older) Forms row)
+form_is Two row = refl
 
-pub old_versions : (older : Older) (t : Tables) → AreLifted older t → (kept : ℤ) → AllByRecursion (IsOldVersion older) (own_versions t kept)
-old_versions Two = two_versions
+version_is : (older : Older) (row : Row) → IsOldVersion older (from_by (layout_of older) Versions row)
+version_is Two row = record { format = refl; reason = reason_twice (column row 6) }
 
-pub old_entries : (older : Older) (t : Tables) → AreLifted older t → (version : ℤ) → AllByRecursion IsOldEntry (own_entries t version)
-old_entries Two = two_entries
+entry_is : (older : Older) (row : Row) → IsOldEntry (from_by (layout_of older) Entries row)
+entry_is Two row = reason_twice (column row 9)
 
-pub old_signatures : (older : Older) (t : Tables) → AreLifted older t → (version : ℤ) → AllByRecursion IsOldSignature (own_signatures t version)
-old_signatures Two = two_signatures
+signature_is : (older : Older) (row : Row) → IsOldSignature (from_by (layout_of older) Signatures row)
+signature_is Two row = reason_twice (column row 8)
+
+module _ (older : Older) (t : Tables) (of : AreLifted older t) where
+  -- a fact on rows that are read of old ones
+  lifted_so : (P : Tables → Type 0) → P (old_tables older of.0) → P t
+  lifted_so P it = subst P of.1 it
+
+  pub old_persons : (lab : ℤ) → AllByRecursion (IsOldPerson older) (own_persons t lab)
+  old_persons lab =
+      lifted_so (λ t. AllByRecursion (IsOldPerson older) (own_persons t lab))
+      (own_all (IsOldPerson older) (from_by (layout_of older) Persons) (person_is older) (of.0 (layout_of older Persons).sheet.tree) (λ one. int_eq one.lab lab) by_code)
+
+  pub old_forms : (lab : ℤ) → AllByRecursion (IsOldForm older) (own_forms t lab)
+  old_forms lab =
+      lifted_so (λ t. AllByRecursion (IsOldForm older) (own_forms t lab))
+      (own_all (IsOldForm older) (from_by (layout_of older) Forms) (form_is older) (of.0 (layout_of older Forms).sheet.tree) (λ one. int_eq one.lab lab) by_form)
+
+  pub old_versions : (kept : ℤ) → AllByRecursion (IsOldVersion older) (own_versions t kept)
+  old_versions kept =
+      lifted_so (λ t. AllByRecursion (IsOldVersion older) (own_versions t kept))
+      (own_all (IsOldVersion older) (from_by (layout_of older) Versions) (version_is older) (of.0 (layout_of older Versions).sheet.tree) (λ one. int_eq one.kept kept) by_version)
+
+  pub old_entries : (version : ℤ) → AllByRecursion IsOldEntry (own_entries t version)
+  old_entries version =
+      lifted_so (λ t. AllByRecursion IsOldEntry (own_entries t version))
+      (own_all IsOldEntry (from_by (layout_of older) Entries) (entry_is older) (of.0 (layout_of older Entries).sheet.tree) (λ one. int_eq one.version version) by_entry)
+
+  pub old_signatures : (version : ℤ) → AllByRecursion IsOldSignature (own_signatures t version)
+  old_signatures version =
+      lifted_so (λ t. AllByRecursion IsOldSignature (own_signatures t version))
+      (own_all IsOldSignature (from_by (layout_of older) Signatures) (signature_is older) (of.0 (layout_of older Signatures).sheet.tree) (λ one. int_eq one.version version) by_signature)
 
 -- what is made of each, where each is as it is
 pub all_same : {X Y : Type 0} (P : X → Type 0) (f g : X → Y) → ((x : X) → P x → f x ≡ g x) → (xs : List X) → AllByRecursion P xs → map f xs ≡ map g xs

@@ -1,4 +1,4 @@
--- What the texts of the queries mean under a schema, and that they mean it under schema 2.
+-- What the texts of the queries mean under a schema, and that they mean it under each older one.
 use Rattle.std.proofs.Common.{◌≡◌, ℕ, List, [], ◌∷◌, codes, false, refl}
 use Rattle.sqlite_value.specs.declared.keys.Collation.TheVariants.{Binary}
 use Rattle.sqlite_value.specs.Keys.{ascending}
@@ -16,7 +16,7 @@ use Rattle.lab_store_read.proofs.Texts.{is_param, own_query, children_query, rec
 use Rattle.sqlite_schema.specs.declared.schema.Schema.{Schema}
 use Rattle.lab_move_tables.specs.declared.older.Older.{Older}
 use Rattle.lab_move_tables.specs.declared.older.Older.TheVariants.{Two}
-use Rattle.lab_move_tables.specs.OldSchema.{old_schema}
+use Rattle.lab_move_tables.specs.Olders.{schema_of}
 use Rattle.lab_move_tables.specs.Questions.{codes_text, lab_text, person_text, owner_text, session_text, form_text, field_text, choice_text, filed_text, version_text, entry_text, entry_place_text, signature_text, signature_place_text, told_text}
 
 -- a text that is a query, under any schema, and means this one under this schema, whose columns have these names
@@ -45,9 +45,9 @@ codes_columns = col 1 2 ∷ []
 abbrev pub CodesMeans : Schema → Type 0
 CodesMeans schema = MeansIn schema codes_text (own_query 1 [] codes_columns 2) codes_names
 
-pub codes_means : CodesMeans old_schema
+pub codes_means : (older : Older) → CodesMeans (schema_of older)
 unfolding understood everything
-codes_means = record { read = (_, refl); command = refl; unlisted = refl; plain = (refl, refl) }
+codes_means Two = record { read = (_, refl); command = refl; unlisted = refl; plain = (refl, refl) }
 
 -- ---- lab
 
@@ -63,24 +63,25 @@ lab_query = record record_query { from = inner 1 end; filter = is_param 2 0 ∷ 
 abbrev pub LabMeans : Schema → Type 0
 LabMeans schema = MeansIn schema lab_text lab_query lab_names
 
-pub lab_means : LabMeans old_schema
+pub lab_means : (older : Older) → LabMeans (schema_of older)
 unfolding understood everything
-lab_means = record { read = (_, refl); command = refl; unlisted = refl; plain = (refl, refl) }
+lab_means Two = record { read = (_, refl); command = refl; unlisted = refl; plain = (refl, refl) }
 
 -- ---- person
 
-abbrev person_names : List (List ℕ)
-person_names = codes "code" ∷ codes "name" ∷ codes "roles" ∷ codes "retired" ∷ codes "failures" ∷ codes "locked" ∷ codes "kind" ∷ codes "salt" ∷ codes "rounds" ∷ codes "bytes" ∷ codes "salt2" ∷ codes "bytes2" ∷ codes "changed" ∷ codes "asker" ∷ codes "asked" ∷ codes "ask_salt" ∷ codes "ask_bytes" ∷ []
+abbrev person_names : Older → List (List ℕ)
+person_names Two =
+    codes "code" ∷ codes "name" ∷ codes "roles" ∷ codes "retired" ∷ codes "failures" ∷ codes "locked" ∷ codes "kind" ∷ codes "salt" ∷ codes "rounds" ∷ codes "bytes" ∷ codes "salt2" ∷ codes "bytes2" ∷ codes "changed" ∷ codes "asker" ∷ codes "asked" ∷ codes "ask_salt" ∷ codes "ask_bytes" ∷ []
 
-abbrev pub person_columns : List Term
-person_columns = col 1 3 ∷ col 1 4 ∷ col 1 5 ∷ col 1 6 ∷ col 1 7 ∷ col 1 8 ∷ col 1 9 ∷ col 1 10 ∷ col 1 11 ∷ col 1 12 ∷ col 1 13 ∷ col 1 14 ∷ col 1 15 ∷ col 1 16 ∷ col 1 17 ∷ col 1 18 ∷ col 1 19 ∷ []
+abbrev pub person_columns : Older → List Term
+person_columns Two = col 1 3 ∷ col 1 4 ∷ col 1 5 ∷ col 1 6 ∷ col 1 7 ∷ col 1 8 ∷ col 1 9 ∷ col 1 10 ∷ col 1 11 ∷ col 1 12 ∷ col 1 13 ∷ col 1 14 ∷ col 1 15 ∷ col 1 16 ∷ col 1 17 ∷ col 1 18 ∷ col 1 19 ∷ []
 
-abbrev pub PersonMeans : Schema → Term → Type 0
-PersonMeans schema given = MeansIn schema (person_text Two) (own_query 3 (is_given given 2 ∷ []) person_columns 3) person_names
+abbrev pub PersonMeans : Older → Schema → Term → Type 0
+PersonMeans older schema given = MeansIn schema (person_text older) (own_query 3 (is_given given 2 ∷ []) (person_columns older) 3) (person_names older)
 
-pub person_means : PersonMeans old_schema (col 0 0)
+pub person_means : (older : Older) → PersonMeans older (schema_of older) (col 0 0)
 unfolding understood everything
-person_means = record { read = (_, refl); command = refl; unlisted = refl; plain = (refl, refl) }
+person_means Two = record { read = (_, refl); command = refl; unlisted = refl; plain = (refl, refl) }
 
 -- ---- owner
 
@@ -96,9 +97,9 @@ owner_query = record record_query { from = inner 3 end; filter = is_param 0 0 �
 abbrev pub OwnerMeans : Schema → Type 0
 OwnerMeans schema = MeansIn schema owner_text owner_query owner_names
 
-pub owner_means : OwnerMeans old_schema
+pub owner_means : (older : Older) → OwnerMeans (schema_of older)
 unfolding understood everything
-owner_means = record { read = (_, refl); command = refl; unlisted = refl; plain = (refl, refl) }
+owner_means Two = record { read = (_, refl); command = refl; unlisted = refl; plain = (refl, refl) }
 
 -- ---- session
 
@@ -111,32 +112,32 @@ session_columns = col 1 4 ∷ col 2 3 ∷ col 1 5 ∷ col 1 6 ∷ col 1 7 ∷ co
 abbrev pub SessionMeans : Schema → Term → Type 0
 SessionMeans schema given = MeansIn schema session_text (children_query 5 (child_tests given 3) session_columns 4) session_names
 
-pub session_means : SessionMeans old_schema (col 0 0)
+pub session_means : (older : Older) → SessionMeans (schema_of older) (col 0 0)
 unfolding understood everything
-session_means = record { read = (_, refl); command = refl; unlisted = refl; plain = (refl, refl) }
+session_means Two = record { read = (_, refl); command = refl; unlisted = refl; plain = (refl, refl) }
 
 -- ---- form
 
-abbrev form_names : List (List ℕ)
-form_names = codes "id" ∷ codes "code" ∷ codes "version" ∷ []
+abbrev form_names : Older → List (List ℕ)
+form_names Two = codes "id" ∷ codes "code" ∷ codes "version" ∷ []
 
-abbrev pub form_columns : List Term
-form_columns = col 1 0 ∷ col 1 3 ∷ col 1 4 ∷ []
+abbrev pub form_columns : Older → List Term
+form_columns Two = col 1 0 ∷ col 1 3 ∷ col 1 4 ∷ []
 
-abbrev pub form_query : Term → Query
-form_query given = record record_query {
+abbrev pub form_query : Older → Term → Query
+form_query older given = record record_query {
   from = inner 8 end;
   filter = is_given given 2 ∷ [];
-  project = form_columns;
+  project = form_columns older;
   order = (col 1 3, ascending Binary) ∷ (col 1 4, ascending Binary) ∷ [];
 }
 
-abbrev pub FormMeans : Schema → Term → Type 0
-FormMeans schema given = MeansIn schema (form_text Two) (form_query given) form_names
+abbrev pub FormMeans : Older → Schema → Term → Type 0
+FormMeans older schema given = MeansIn schema (form_text older) (form_query older given) (form_names older)
 
-pub form_means : FormMeans old_schema (col 0 0)
+pub form_means : (older : Older) → FormMeans older (schema_of older) (col 0 0)
 unfolding understood everything
-form_means = record { read = (_, refl); command = refl; unlisted = refl; plain = (refl, refl) }
+form_means Two = record { read = (_, refl); command = refl; unlisted = refl; plain = (refl, refl) }
 
 -- ---- field
 
@@ -149,9 +150,9 @@ field_columns = col 1 0 ∷ col 1 4 ∷ col 1 5 ∷ col 1 6 ∷ col 1 7 ∷ col 
 abbrev pub FieldMeans : Schema → Term → Type 0
 FieldMeans schema given = MeansIn schema field_text (own_query 10 (is_given given 2 ∷ []) field_columns 3) field_names
 
-pub field_means : FieldMeans old_schema (col 0 0)
+pub field_means : (older : Older) → FieldMeans (schema_of older) (col 0 0)
 unfolding understood everything
-field_means = record { read = (_, refl); command = refl; unlisted = refl; plain = (refl, refl) }
+field_means Two = record { read = (_, refl); command = refl; unlisted = refl; plain = (refl, refl) }
 
 -- ---- choice
 
@@ -164,9 +165,9 @@ choice_columns = col 1 4 ∷ col 1 3 ∷ []
 abbrev pub ChoiceMeans : Schema → Term → Type 0
 ChoiceMeans schema given = MeansIn schema choice_text (own_query 13 (is_given given 2 ∷ []) choice_columns 3) choice_names
 
-pub choice_means : ChoiceMeans old_schema (col 0 0)
+pub choice_means : (older : Older) → ChoiceMeans (schema_of older) (col 0 0)
 unfolding understood everything
-choice_means = record { read = (_, refl); command = refl; unlisted = refl; plain = (refl, refl) }
+choice_means Two = record { read = (_, refl); command = refl; unlisted = refl; plain = (refl, refl) }
 
 -- ---- filed
 
@@ -179,24 +180,28 @@ filed_columns = col 1 0 ∷ col 1 3 ∷ col 1 4 ∷ col 1 5 ∷ col 1 6 ∷ col 
 abbrev pub FiledMeans : Schema → Term → Type 0
 FiledMeans schema given = MeansIn schema filed_text (own_query 15 (is_given given 2 ∷ []) filed_columns 3) filed_names
 
-pub filed_means : FiledMeans old_schema (col 0 0)
+pub filed_means : (older : Older) → FiledMeans (schema_of older) (col 0 0)
 unfolding understood everything
-filed_means = record { read = (_, refl); command = refl; unlisted = refl; plain = (refl, refl) }
+filed_means Two = record { read = (_, refl); command = refl; unlisted = refl; plain = (refl, refl) }
 
 -- ---- version
 
-abbrev version_names : List (List ℕ)
-version_names = codes "id" ∷ codes "number" ∷ codes "code" ∷ codes "opened" ∷ codes "reason" ∷ codes "lab" ∷ []
+abbrev version_names : Older → List (List ℕ)
+version_names Two = codes "id" ∷ codes "number" ∷ codes "code" ∷ codes "opened" ∷ codes "reason" ∷ codes "lab" ∷ []
 
-abbrev pub version_columns : List Term
-version_columns = col 1 0 ∷ col 1 3 ∷ col 2 3 ∷ col 1 5 ∷ col 1 6 ∷ col 2 2 ∷ []
+abbrev pub version_columns : Older → List Term
+version_columns Two = col 1 0 ∷ col 1 3 ∷ col 2 3 ∷ col 1 5 ∷ col 1 6 ∷ col 2 2 ∷ []
 
-abbrev pub VersionMeans : Schema → Term → Type 0
-VersionMeans schema given = MeansIn schema (version_text Two) (children_query 18 (child_tests given 4) version_columns 3) version_names
+-- the opener's column
+abbrev pub opener_at : Older → ℕ
+opener_at Two = 4
 
-pub version_means : VersionMeans old_schema (col 0 0)
+abbrev pub VersionMeans : Older → Schema → Term → Type 0
+VersionMeans older schema given = MeansIn schema (version_text older) (children_query 18 (child_tests given (opener_at older)) (version_columns older) 3) (version_names older)
+
+pub version_means : (older : Older) → VersionMeans older (schema_of older) (col 0 0)
 unfolding understood everything
-version_means = record { read = (_, refl); command = refl; unlisted = refl; plain = (refl, refl) }
+version_means Two = record { read = (_, refl); command = refl; unlisted = refl; plain = (refl, refl) }
 
 -- ---- entry
 
@@ -209,9 +214,9 @@ entry_columns = col 1 4 ∷ col 1 5 ∷ col 1 6 ∷ col 2 3 ∷ col 1 8 ∷ col 
 abbrev pub EntryMeans : Schema → Term → Type 0
 EntryMeans schema given = MeansIn schema entry_text (children_query 20 (child_tests given 7) entry_columns 3) entry_names
 
-pub entry_means : EntryMeans old_schema (col 0 0)
+pub entry_means : (older : Older) → EntryMeans (schema_of older) (col 0 0)
 unfolding understood everything
-entry_means = record { read = (_, refl); command = refl; unlisted = refl; plain = (refl, refl) }
+entry_means Two = record { read = (_, refl); command = refl; unlisted = refl; plain = (refl, refl) }
 
 -- ---- places of entries, and of signatures
 
@@ -224,16 +229,16 @@ place_columns = col 1 3 ∷ []
 abbrev pub EntryPlaceMeans : Schema → Term → Type 0
 EntryPlaceMeans schema given = MeansIn schema entry_place_text (own_query 20 (is_given given 2 ∷ []) place_columns 3) place_names
 
-pub entry_place_means : EntryPlaceMeans old_schema (col 0 0)
+pub entry_place_means : (older : Older) → EntryPlaceMeans (schema_of older) (col 0 0)
 unfolding understood everything
-entry_place_means = record { read = (_, refl); command = refl; unlisted = refl; plain = (refl, refl) }
+entry_place_means Two = record { read = (_, refl); command = refl; unlisted = refl; plain = (refl, refl) }
 
 abbrev pub SignaturePlaceMeans : Schema → Term → Type 0
 SignaturePlaceMeans schema given = MeansIn schema signature_place_text (own_query 22 (is_given given 2 ∷ []) place_columns 3) place_names
 
-pub signature_place_means : SignaturePlaceMeans old_schema (col 0 0)
+pub signature_place_means : (older : Older) → SignaturePlaceMeans (schema_of older) (col 0 0)
 unfolding understood everything
-signature_place_means = record { read = (_, refl); command = refl; unlisted = refl; plain = (refl, refl) }
+signature_place_means Two = record { read = (_, refl); command = refl; unlisted = refl; plain = (refl, refl) }
 
 -- ---- signature
 
@@ -246,9 +251,9 @@ signature_columns = col 2 3 ∷ col 1 5 ∷ col 1 6 ∷ col 1 8 ∷ col 1 7 ∷ 
 abbrev pub SignatureMeans : Schema → Term → Type 0
 SignatureMeans schema given = MeansIn schema signature_text (children_query 22 (child_tests given 4) signature_columns 3) signature_names
 
-pub signature_means : SignatureMeans old_schema (col 0 0)
+pub signature_means : (older : Older) → SignatureMeans (schema_of older) (col 0 0)
 unfolding understood everything
-signature_means = record { read = (_, refl); command = refl; unlisted = refl; plain = (refl, refl) }
+signature_means Two = record { read = (_, refl); command = refl; unlisted = refl; plain = (refl, refl) }
 
 -- ---- told
 
@@ -261,55 +266,44 @@ told_columns = col 1 3 ∷ col 1 4 ∷ col 1 5 ∷ col 1 6 ∷ col 1 7 ∷ []
 abbrev pub ToldMeans : Schema → Term → Type 0
 ToldMeans schema given = MeansIn schema told_text (own_query 25 (is_given given 2 ∷ []) told_columns 3) told_names
 
-pub told_means : ToldMeans old_schema (col 0 0)
+pub told_means : (older : Older) → ToldMeans (schema_of older) (col 0 0)
 unfolding understood everything
-told_means = record { read = (_, refl); command = refl; unlisted = refl; plain = (refl, refl) }
+told_means Two = record { read = (_, refl); command = refl; unlisted = refl; plain = (refl, refl) }
 
 -- ---- all of them
 
-pub record AllMeans (schema : Schema) (given : Term) : Type 0 where
+pub record AllMeans (older : Older) (schema : Schema) (given : Term) : Type 0 where
   pub labs : CodesMeans schema
   pub lab : LabMeans schema
-  pub person : PersonMeans schema given
+  pub person : PersonMeans older schema given
   pub owner : OwnerMeans schema
   pub session : SessionMeans schema given
-  pub form : FormMeans schema given
+  pub form : FormMeans older schema given
   pub field : FieldMeans schema given
   pub choice : ChoiceMeans schema given
   pub filed : FiledMeans schema given
-  pub version : VersionMeans schema given
+  pub version : VersionMeans older schema given
   pub entry : EntryMeans schema given
   pub entry_place : EntryPlaceMeans schema given
   pub signature_place : SignaturePlaceMeans schema given
   pub signature : SignatureMeans schema given
   pub told : ToldMeans schema given
 
-pub all_means : AllMeans old_schema (col 0 0)
-all_means = record {
-  labs = codes_means;
-  lab = lab_means;
-  person = person_means;
-  owner = owner_means;
-  session = session_means;
-  form = form_means;
-  field = field_means;
-  choice = choice_means;
-  filed = filed_means;
-  version = version_means;
-  entry = entry_means;
-  entry_place = entry_place_means;
-  signature_place = signature_place_means;
-  signature = signature_means;
-  told = told_means;
+pub all_means : (older : Older) → AllMeans older (schema_of older) (col 0 0)
+all_means older = record {
+  labs = codes_means older;
+  lab = lab_means older;
+  person = person_means older;
+  owner = owner_means older;
+  session = session_means older;
+  form = form_means older;
+  field = field_means older;
+  choice = choice_means older;
+  filed = filed_means older;
+  version = version_means older;
+  entry = entry_means older;
+  entry_place = entry_place_means older;
+  signature_place = signature_place_means older;
+  signature = signature_means older;
+  told = told_means older;
 }
-
--- ---- of each older schema
-
-pub person_asks : (older : Older) → IsRead (first (person_text older))
-person_asks Two = person_means.read
-
-pub form_asks : (older : Older) → IsRead (first (form_text older))
-form_asks Two = form_means.read
-
-pub version_asks : (older : Older) → IsRead (first (version_text older))
-version_asks Two = version_means.read

@@ -4,6 +4,7 @@ use Rattle.sqlite_tied.specs.Compute.{everything}
 use Rattle.sqlite.specs.Listing.{understood}
 use Rattle.sqlite_sql.specs.Term.{Term, col, op1}
 use Rattle.sqlite_sql.specs.declared.ops.UnaryOp.TheVariants.{ToNumeric}
+use Rattle.lab_move_tables.specs.declared.older.Older.TheVariants.{Two}
 use Rattle.lab_move_tables.specs.PeerFiles.{peer_schema}
 use Rattle.lab_move_tables.proofs.OldTexts.{AllMeans, CodesMeans, LabMeans, PersonMeans, OwnerMeans, SessionMeans, FormMeans, FieldMeans, ChoiceMeans, FiledMeans, VersionMeans, EntryMeans, EntryPlaceMeans, SignaturePlaceMeans, SignatureMeans, ToldMeans}
 
@@ -19,7 +20,7 @@ lab_means : LabMeans peer_schema
 unfolding understood everything
 lab_means = record { read = (_, refl); command = refl; unlisted = refl; plain = (refl, refl) }
 
-person_means : PersonMeans peer_schema as_number
+person_means : PersonMeans Two peer_schema as_number
 unfolding understood everything
 person_means = record { read = (_, refl); command = refl; unlisted = refl; plain = (refl, refl) }
 
@@ -31,7 +32,7 @@ session_means : SessionMeans peer_schema as_number
 unfolding understood everything
 session_means = record { read = (_, refl); command = refl; unlisted = refl; plain = (refl, refl) }
 
-form_means : FormMeans peer_schema as_number
+form_means : FormMeans Two peer_schema as_number
 unfolding understood everything
 form_means = record { read = (_, refl); command = refl; unlisted = refl; plain = (refl, refl) }
 
@@ -47,7 +48,7 @@ filed_means : FiledMeans peer_schema as_number
 unfolding understood everything
 filed_means = record { read = (_, refl); command = refl; unlisted = refl; plain = (refl, refl) }
 
-version_means : VersionMeans peer_schema as_number
+version_means : VersionMeans Two peer_schema as_number
 unfolding understood everything
 version_means = record { read = (_, refl); command = refl; unlisted = refl; plain = (refl, refl) }
 
@@ -71,7 +72,7 @@ told_means : ToldMeans peer_schema as_number
 unfolding understood everything
 told_means = record { read = (_, refl); command = refl; unlisted = refl; plain = (refl, refl) }
 
-pub peer_means : AllMeans peer_schema as_number
+pub peer_means : AllMeans Two peer_schema as_number
 peer_means = record {
   labs = codes_means;
   lab = lab_means;

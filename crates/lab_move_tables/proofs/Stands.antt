@@ -1,5 +1,5 @@
 -- A file whose schema and whose rows are known stands for the tables of its rows.
-use Rattle.std.proofs.Common.{ℕ, List, [], ◌∷◌, Option, Some, None, refl}
+use Rattle.std.proofs.Common.{ℕ, List, [], ◌∷◌, ◌≡◌, map, Option, Some, None, refl}
 use Rattle.sqlite_value.specs.declared.value.Value.{Value}
 use Rattle.sqlite_value.specs.declared.value.Value.TheVariants.{Text}
 use Rattle.sqlite_schema.specs.declared.schema.Schema.{Schema}
@@ -7,36 +7,38 @@ use Rattle.sqlite.specs.Effect.{Database}
 use Rattle.sqlite_sql.specs.Ops.{unary}
 use Rattle.sqlite_sql.specs.Term.{Term}
 use Rattle.lab_store_tables.specs.Rows.{optional}
-use Rattle.lab_store_tables.specs.Family.{Labs, Persons, Sessions, Forms, Fields, Choices, Records, Versions, Entries, Signatures, Trail}
+use Rattle.lab_store_tables.specs.Family.{Name, Desk, rows}
+use Rattle.lab_store_tables.proofs.FamilyWords.{tree_of}
+use Rattle.lab_move_tables.proofs.OldRowWords.{old_row}
 use Rattle.lab_move_tables.specs.declared.older.Older.{Older}
 use Rattle.lab_move_tables.specs.declared.older.Older.TheVariants.{Two}
-use Rattle.lab_move_tables.specs.OldSchema.{old_schema}
 use Rattle.lab_move_tables.specs.OldRows.{IsOldFile, old_tables}
-use Rattle.lab_move_tables.specs.PeerFiles.{IsPeerFile, peer_schema, words}
+use Rattle.lab_move_tables.specs.PeerFiles.{IsPeerFile, words}
 use Rattle.lab_move_tables.specs.Standing.{StandsBy}
 use Rattle.lab_move_tables.proofs.OldTexts.{AllMeans, all_means}
 use Rattle.lab_move_tables.proofs.PeerTexts.{as_number, peer_means}
 use Rattle.lab_move_tables.proofs.OldExact.{IsWrittenIn, Gives, Writes, codes_read, lab_read, person_read, owner_read, session_read, form_read, field_read, choice_read, filed_read, version_read, entry_read, entry_places_read, signature_read, signature_places_read, told_read}
 
-stands : {schema : Schema} {write : Option (List ℕ) → Value} {given : Term} (db : Database) → IsWrittenIn schema write db → AllMeans schema given → Gives given → Writes write → StandsBy Two db (old_tables Two db.trees)
-stands db file means gives writes = record {
+stands : {older : Older} {schema : Schema} {write : Option (List ℕ) → Value} {given : Term} (db : Database) → IsWrittenIn older schema write db → AllMeans older schema given → Gives given → Writes write
+    → StandsBy older db (old_tables older db.trees)
+stands {given = given} db file means gives writes = record {
   lifted = (db.trees, refl);
   rising = file.rising;
-  labs = codes_read db file means.labs;
-  lab = lab_read db file means.lab;
-  persons = person_read db file means.person gives;
-  owner = owner_read db file means.owner;
-  sessions = session_read db file means.session gives;
-  trail = told_read db file means.told gives;
-  forms = form_read db file means.form gives;
-  fields = field_read db file means.field gives;
-  choices = choice_read db file means.choice gives;
-  records = filed_read db file means.filed gives;
-  versions = λ kept. version_read db file means.version gives kept writes;
-  entries = λ version. entry_read db file means.entry gives version writes;
-  entry_places = entry_places_read db file means.entry_place gives;
-  signatures = λ version. signature_read db file means.signature gives version writes;
-  signature_places = signature_places_read db file means.signature_place gives;
+  labs = codes_read db file given gives means.labs;
+  lab = lab_read db file given gives means.lab;
+  persons = person_read db file given gives means.person;
+  owner = owner_read db file given gives means.owner;
+  sessions = session_read db file given gives means.session;
+  trail = told_read db file given gives means.told;
+  forms = form_read db file given gives means.form;
+  fields = field_read db file given gives means.field;
+  choices = choice_read db file given gives means.choice;
+  records = filed_read db file given gives means.filed;
+  versions = λ kept. version_read db file given gives means.version kept writes;
+  entries = λ version. entry_read db file given gives means.entry version writes;
+  entry_places = entry_places_read db file given gives means.entry_place;
+  signatures = λ version. signature_read db file given gives means.signature version writes;
+  signature_places = signature_places_read db file given gives means.signature_place;
 }
 
 -- ---- with NULL for no reason
@@ -46,26 +48,13 @@ nulls None h = refl
 nulls (Some []) h = absurd cc
 nulls (Some (first ∷ others)) h = refl
 
-exact_written : (db : Database) → IsOldFile Two db → IsWrittenIn old_schema (optional Text) db
-exact_written db file = record {
-  has = file.schema;
-  rising = file.rising;
-  rules = file.rules;
-  labs = file.stored.at Labs;
-  persons = file.stored.at Persons;
-  sessions = file.stored.at Sessions;
-  forms = file.stored.at Forms;
-  fields = file.stored.at Fields;
-  choices = file.stored.at Choices;
-  records = file.stored.at Records;
-  versions = file.stored.at Versions;
-  entries = file.stored.at Entries;
-  signatures = file.stored.at Signatures;
-  trail = file.stored.at Trail;
-}
+exact_rows : (older : Older) (db : Database) → IsOldFile older db → (k : Name) → db.trees (tree_of k) ≡ map (old_row older (optional Text) k) (rows k (old_tables older db.trees))
+exact_rows Two db file Desk = file.stored.at Desk
+exact_rows Two db file k = file.stored.at k
 
 pub exact_stands : (older : Older) (db : Database) → IsOldFile older db → StandsBy older db (old_tables older db.trees)
-exact_stands Two db file = stands db (exact_written db file) all_means (λ id others. refl) nulls
+exact_stands older db file =
+    stands db (record { has = file.schema; rising = file.rising; rules = file.rules; stored = exact_rows older db file }) (all_means older) (λ id others. refl) nulls
 
 -- ---- with an empty text
 
@@ -81,23 +70,9 @@ numbers : Gives as_number
 unfolding unary
 numbers id others = refl
 
-peer_written : (db : Database) → IsPeerFile db → IsWrittenIn peer_schema text_of db
-peer_written db file = record {
-  has = file.schema;
-  rising = file.rising;
-  rules = file.rules;
-  labs = file.stored.at Labs;
-  persons = file.stored.at Persons;
-  sessions = file.stored.at Sessions;
-  forms = file.stored.at Forms;
-  fields = file.stored.at Fields;
-  choices = file.stored.at Choices;
-  records = file.stored.at Records;
-  versions = file.stored.at Versions;
-  entries = file.stored.at Entries;
-  signatures = file.stored.at Signatures;
-  trail = file.stored.at Trail;
-}
+peer_rows : (db : Database) → IsPeerFile db → (k : Name) → db.trees (tree_of k) ≡ map (old_row Two text_of k) (rows k (old_tables Two db.trees))
+peer_rows db file Desk = file.stored.at Desk
+peer_rows db file k = file.stored.at k
 
 pub peer_stands : (db : Database) → IsPeerFile db → StandsBy Two db (old_tables Two db.trees)
-peer_stands db file = stands db (peer_written db file) peer_means numbers empties
+peer_stands db file = stands db (record { has = file.schema; rising = file.rising; rules = file.rules; stored = peer_rows db file }) peer_means numbers empties

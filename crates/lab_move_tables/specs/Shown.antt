@@ -1,5 +1,6 @@
 -- The rows that each question is to show of the tables, in its order (ISO/IEC 9075-2, ORDER BY).
--- What an older schema didn't know, its question doesn't show.
+-- What an older schema didn't know, its question doesn't show; what the oldest lacks, another shows
+-- last.
 use Rattle.std.specs.Prelude.{ℕ, ℤ, List, [], ◌∷◌, map, filter}
 use Rattle.std.specs.declared.cmp.Ordering.{Ordering}
 use Rattle.std.specs.Ordering.{int_eq, nat_cmp}
@@ -35,14 +36,18 @@ codes_shown t = map code_shown (sort_by by_lab t.labs)
 
 -- ---- persons and sessions
 
+abbrev person_last : Older → PersonRow → Row
+person_last Two one = []
+
 abbrev pub person_shown : Older → PersonRow → Row
-person_shown Two one =
+person_shown older one =
     Text one.code ∷ Text one.name ∷ number one.roles ∷ flag one.retired ∷ number one.failures
     ∷ optional number one.locked ∷ number one.password.kind ∷ optional Blob one.password.salt
     ∷ optional number one.password.rounds ∷ optional Blob one.password.bytes
     ∷ optional Blob one.password.salt2 ∷ optional Blob one.password.bytes2
     ∷ optional number one.password.changed ∷ optional Int one.ask.asker
-    ∷ optional number one.ask.asked ∷ optional Blob one.ask.salt ∷ optional Blob one.ask.bytes ∷ []
+    ∷ optional number one.ask.asked ∷ optional Blob one.ask.salt ∷ optional Blob one.ask.bytes
+    ∷ person_last older one
 
 abbrev pub persons_shown : Older → Tables → ℤ → List Row
 persons_shown older t lab = map (person_shown older) (own_persons t lab)
@@ -64,8 +69,11 @@ sessions_shown t lab = map (session_shown t) (own_sessions t lab)
 
 -- ---- forms
 
+abbrev form_last : Older → FormRow → Row
+form_last Two one = []
+
 abbrev pub form_shown : Older → FormRow → Row
-form_shown Two one = Int one.id ∷ Text one.code ∷ number one.version ∷ []
+form_shown older one = Int one.id ∷ Text one.code ∷ number one.version ∷ form_last older one
 
 abbrev pub forms_shown : Older → Tables → ℤ → List Row
 forms_shown older t lab = map (form_shown older) (own_forms t lab)
@@ -96,10 +104,13 @@ record_shown one =
 abbrev pub records_shown : Tables → ℤ → List Row
 records_shown t lab = map record_shown (own_records t lab)
 
+abbrev pub version_last : Older → VersionRow → Row
+version_last Two one = []
+
 abbrev pub version_shown : Older → Tables → VersionRow → Row
-version_shown Two t one =
+version_shown older t one =
     Int one.id ∷ number one.number ∷ Text (code_of t one.opener) ∷ number one.opened
-    ∷ optional Text one.reason ∷ Int (lab_of t one.opener) ∷ []
+    ∷ optional Text one.reason ∷ Int (lab_of t one.opener) ∷ version_last older one
 
 abbrev pub versions_shown : Older → Tables → ℤ → List Row
 versions_shown older t kept = map (version_shown older t) (own_versions t kept)
