@@ -14,8 +14,9 @@ use Rattle.lab_wire.specs.declared.commands.Asked.{Asked}
 use Rattle.lab_wire.specs.declared.refusals.RequestRefusal.{RequestRefusal}
 use Rattle.lab_wire.specs.declared.replies.Answer.TheVariants.{Refused}
 use Rattle.lab_wire.specs.Replies.{reply_text, memory_text}
-use Rattle.lab_desk_events.specs.Calls.{EndsCall}
+use Rattle.lab_records_keeper.specs.Calls.{EndsCall}
 use Rattle.lab_records_copy_out.specs.Legible.{IsLegibleChange}
+use Rattle.lab_desk_events.specs.Causes.{RefusesAsked}
 use Rattle.lab_desk_events.specs.Copies.{IsAskedLegibly}
 use Rattle.lab_desk_events.specs.Keeping.{AreWithin, GivenWithin, Stays}
 use Rattle.lab_desk_events.specs.Requests.{AskedInBytes, DoesStep, IsRefusedReply, TellsFault, answer_to, changes_for, is_idle}
@@ -28,6 +29,11 @@ use Rattle.lab_desk.specs.Handling.{Handles, IsNobodysReply}
 -- it isn't both taken and refused
 both_not : {A : Type 0} (taken : Bool) → taken ≡ true → taken ≡ false → A
 both_not taken is not = absurd (false≢true (sym not ∙ is))
+
+if_ok_all : {A E : Type 0} {P : A → Type 0} (result : Result A E) → ((it : A) → P it) →
+    IfOk result P
+if_ok_all (Ok it) each = each it
+if_ok_all (Err fault) each = tt
 
 still_passes : (world : World) → Passes world world
 still_passes world = record {
@@ -65,6 +71,7 @@ module _ {S : Type 0} (keeper : Ghosts S) (kept : S) (tick : Tick) (is_taken : B
     refused = λ honest reached refused.
         record { replied = inl (memory refused); same = λ live code. refl };
     rows_refused = λ honest reached refused live. rested;
+    cause = tt;
     untouched = λ other is. refl;
     nobodys = told_refused tick refusal reply is_taken told memory;
     crash = λ within honest reached live held left. inl left;
@@ -85,6 +92,7 @@ module _ {S : Type 0} (keeper : Ghosts S) (kept : S) (tick : Tick) (is_taken : B
     refused = λ honest reached refused.
         record { replied = inl told; same = λ live code. refl };
     rows_refused = λ honest reached refused live. rested;
+    cause = if_ok_all asks (λ one refused. inl told);
     untouched = λ refusal is. refl;
     nobodys = λ refusal is. inr told;
     crash = λ within honest reached live held left. inl left;
@@ -96,6 +104,13 @@ module _ {S : Type 0} (keeper : Ghosts S) (kept : S) (tick : Tick) (is_taken : B
   }
 
 -- ---- bytes that ask a laboratory something
+
+-- a fault of the store, or the lack of memory for its reply
+caused_reply : (cause : Type 0) (tick : Tick) (reply : List ℕ) (fault : Fault BadStore) →
+    KeeperFaultFits cause fault → TellsFault tick reply fault → IsRefusedReply cause tick reply
+caused_reply cause tick reply Memory fits told = inl told
+caused_reply cause tick reply (StoreRefused _) fits (inl memory) = inl memory
+caused_reply cause tick reply (StoreRefused _) fits (inr storage) = inr (fits, storage)
 
 -- the reply that tells a keeper's fault
 refused_reply : (may_refuse : Type 0) (asks : AskedInBytes) (tick : Tick) (reply : List ℕ)
@@ -115,6 +130,7 @@ pub record IsKept {S A : Type 0} (keeper : Ghosts S) (old new : S) (tick : Tick)
   pub told : Given (keeper.world old) (keeper.world new) (IfOk answered (λ answer.
       items answer ≡ reply_text tick (answer_to (keeper.world old).meaning tick (Ok asked))))
   pub ends : EndsCall (keeper.world old) (keeper.world new) (keeper.rests old new) answered
+  pub cause : IfErr answered (KeeperFaultFits (RefusesAsked keeper old new tick asked))
   pub quiet : IsTrue (is_idle ((keeper.world old).meaning asked.lab) tick asked.instruction) →
       Given (keeper.world old) (keeper.world new) (Quiet (keeper.world old) (keeper.world new))
   pub does : GivenWithin (keeper.world old) (keeper.world new)
@@ -164,6 +180,7 @@ module _ {S A : Type 0} (keeper : Ghosts S) (old new : S) (tick : Tick) (asked :
     rows = λ within honest reached taken. (kept.does within honest reached).rows;
     refused = λ honest reached refused. both_not is_taken kept.replied.0 refused;
     rows_refused = λ honest reached refused live. both_not is_taken kept.replied.0 refused;
+    cause = λ refused. both_not is_taken kept.replied.0 refused;
     untouched = λ refusal is. absurd cc;
     nobodys = λ refusal is. absurd cc;
     crash = λ within honest reached. (kept.does within honest reached).crash;
@@ -185,6 +202,8 @@ module _ {S A : Type 0} (keeper : Ghosts S) (old new : S) (tick : Tick) (asked :
       same = kept.ends.err honest reached;
     };
     rows_refused = λ honest reached refused. kept.ends.rows_err honest reached;
+    cause = λ refused. caused_reply (RefusesAsked keeper old new tick asked) tick reply fault
+        kept.cause kept.failed.1;
     untouched = λ refusal is. absurd cc;
     nobodys = λ refusal is. absurd cc;
     crash = λ within honest reached. (kept.does within honest reached).crash;

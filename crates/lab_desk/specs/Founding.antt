@@ -3,6 +3,7 @@ use Rattle.std.specs.Prelude.{◌≡◌, ℕ, List, Result, IfErr, IsSome, OnErr
 use Rattle.lab_forms_texts.specs.declared.tick.Tick.{Tick}
 use Rattle.lab_records_keeper.specs.declared.keeper.Keeper.{Ghosts}
 use Rattle.lab_records_keeper.specs.Worlds.{World, CommitsAs, Given, IsDurable, Leaves, Lives, Passes, Quiet}
+use Rattle.lab_desk_events.specs.Causes.{RefusesBirth}
 use Rattle.lab_desk_events.specs.Keeping.{Stays}
 use Rattle.lab_desk_foundings.specs.declared.faults.FoundFault.{FoundFault}
 use Rattle.lab_desk_foundings.specs.Faults.{FoundFaultFits, OnBody, OnKept, OnUncommitted}
@@ -26,6 +27,9 @@ module _ {S : Type 0} (keeper : Ghosts S) (old new : S) (code : List ℕ) (tick 
         (OnErr result ((keeper.world new).is_live → keeper.rests old new))
     pub fault : IfErr result (FoundFaultFits (keeper.world old).may_refuse
         (Given before after (IsSome ((keeper.world old).meaning code))) code tick body)
+    -- a founding that the store refused has its cause there
+    pub cause : IfErr result (FoundFaultFits (RefusesBirth keeper old new tick code body) (Unit {0})
+        code tick body)
     pub lives : Given before after (OnKept result (Lives before after))
     -- the keeper isn't asked where the body is at fault
     pub untouched : OnBody result (new ≡ old)

@@ -1,15 +1,16 @@
 -- What a request leaves of a keeper's laboratories, and what is replied: the contract of
 -- `Desk::handle`. Serving a request, and two desks beside one another, say it by the same record.
-use Rattle.std.specs.Prelude.{◌≡◌, ◌⊎◌, Bool, true, false, ℕ, List, Ok, Err, IsTrue, IsFalse}
+use Rattle.std.specs.Prelude.{◌≡◌, ◌⊎◌, Bool, true, false, ℕ, List, Ok, Err, IfOk, IsTrue, IsFalse}
 use Rattle.lab_forms_texts.specs.declared.tick.Tick.{Tick}
 use Rattle.lab_records_keeper.specs.declared.keeper.Keeper.{Ghosts}
 use Rattle.lab_records_keeper.specs.Worlds.{World, CommitsAs, Given, IsDurable, Passes, Quiet}
 use Rattle.lab_wire.specs.declared.refusals.RequestRefusal.{RequestRefusal}
 use Rattle.lab_wire.specs.declared.replies.Answer.TheVariants.{Refused}
 use Rattle.lab_wire.specs.Replies.{reply_text, memory_text}
+use Rattle.lab_desk_events.specs.Causes.{RefusesAsked}
 use Rattle.lab_desk_events.specs.Copies.{IsSoundAnswer}
 use Rattle.lab_desk_events.specs.Keeping.{AreLegible, AreReleasing, GivenWithin, Stays}
-use Rattle.lab_desk_events.specs.Requests.{AskedInBytes, MovesBy, RefusesRequest, Steps, TakesRequest, is_idle_request}
+use Rattle.lab_desk_events.specs.Requests.{AskedInBytes, IsRefusedReply, MovesBy, RefusesRequest, Steps, TakesRequest, is_idle_request}
 
 -- a request, and how it was handled
 pub record Handling : Type 0 where
@@ -60,6 +61,10 @@ module _ {S : Type 0} (keeper : Ghosts S) (old new : S) (request : Handling) whe
         RefusesRequest before after request.tick request.asks request.reply)
     pub rows_refused : Given before after (request.is_taken ≡ false →
         (keeper.world new).is_live → keeper.rests old new)
+    -- one that the store refused has its cause there: it refused the part that the request needs, or
+    -- the changes that are decided on it
+    pub cause : IfOk request.asks (λ one. request.is_taken ≡ false →
+        IsRefusedReply (RefusesAsked keeper old new request.tick one) request.tick request.reply)
     -- bytes that ask nothing leave the keeper as it is, and are answered from themselves
     pub untouched : (refusal : RequestRefusal) → request.asks ≡ Err refusal → new ≡ old
     pub nobodys : IsNobodysReply request.tick request.asks request.reply

@@ -92,12 +92,13 @@ impl<S: Keeper + Drop> Desk<S> {
     /// asks again. Every laboratory keeps what it has recorded.
     ///
     /// Each fact has a name, as a field of `Handles` (`specs/Handling.antt`): `taken` and `rows`
-    /// are about a request that was taken; `refused` and `rows_refused` about one that was not;
-    /// `untouched` and `nobodys` about bytes that ask nothing; `crash`, `quiet` and `durable` about
-    /// what a crash may leave; `stays` and `passes` about what stays true (`stays` has `within`,
-    /// `releasing`, `legible`, `keeps`, `reached`, `safe`, `left_within`, `left_releasing` and
-    /// `again`: after a refusal too, a live keeper is live, or its store failed in this call); and
-    /// `sound`: a copy that was sent as the reply is sound.
+    /// are about a request that was taken; `refused` and `rows_refused` about one that was not, and
+    /// `cause` about why the store refused it; `untouched` and `nobodys` about bytes that ask
+    /// nothing; `crash`, `quiet` and `durable` about what a crash may leave; `stays` and `passes`
+    /// about what stays true (`stays` has `within`, `releasing`, `legible`, `keeps`, `reached`,
+    /// `safe`, `left_within`, `left_releasing` and `again`: after a refusal too, a live keeper is
+    /// live, or its store failed in this call); and `sound`: a copy that was sent as the reply is
+    /// sound.
     pub fn handle(&mut self, tick: &Tick, bytes: &[u8]) -> bool
         ensures { Handles S.Keeper self.old.keeper self.new.keeper (record {
           tick = tick.now;

@@ -22,7 +22,7 @@ use Rattle.lab_records_copy_out.specs.Legible.{IsLegibleChange}
 use Rattle.lab_records_laws.proofs.Passing.{decided_is}
 use Rattle.lab_wire.specs.declared.replies.Answer.TheVariants.{Replied}
 use Rattle.lab_wire.specs.Replies.{reply_text}
-use Rattle.lab_desk_events.specs.Calls.{EndsCall, Loads}
+use Rattle.lab_records_keeper.specs.Calls.{EndsCall, Loads}
 use Rattle.lab_desk_events.specs.Requests.{changes_for, is_none, is_idle}
 use Rattle.lab_desk_events.proofs.RequestWords.{Builds}
 use Rattle.lab_desk_events.proofs.Lasting.{shuts_on}

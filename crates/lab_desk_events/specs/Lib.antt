@@ -1,3 +1,4 @@
+pub mod Causes
 pub mod Requests
 pub mod Keeping
 pub mod Copies
@@ -5,4 +6,3 @@ pub mod Alone
 pub mod Runs
 pub mod Leaving
 pub mod Starts
-pub mod Calls

@@ -4,7 +4,8 @@
 
 ghost use Rattle.std.specs.Prelude.{◌≡◌, All, IfOk, IfErr};
 ghost use Rattle.lab_forms_texts.specs.declared.refusals.Fault.TheVariants.{Memory};
-ghost use Rattle.lab_desk_events.specs.Calls.{Applies};
+ghost use Rattle.lab_records_keeper.specs.Calls.{Applies};
+ghost use Rattle.lab_records_keeper.specs.Worlds.{KeeperFaultFits};
 ghost use Rattle.lab_records_outcomes.specs.Deciding.{decided};
 ghost use Rattle.lab_records_copy_out.specs.Legible.{IsLegibleChange};
 ghost use Rattle.lab_wire.specs.declared.replies.Answer.TheVariants.{Replied};
@@ -53,6 +54,8 @@ pub fn answer_on<S: Keeper>(
     ensures applies { Applies asked.lab (decided slice tick.now asked.instruction.command).changes
         (S.world keeper.old) (S.world keeper.new) (S.rests keeper.old keeper.new)
         (S.moves keeper.old keeper.new) result }
+    ensures cause { IfErr result (KeeperFaultFits (S.refuses_changes keeper.old keeper.new asked.lab
+        (decided slice tick.now asked.instruction.command).changes)) }
     ensures legible { IfOk result (λ _. All IsLegibleChange
         (decided slice tick.now asked.instruction.command).changes) }
 {

@@ -1,13 +1,14 @@
 //! Answers a request over any keeper: loads the part that the request needs, or replies that no
 //! laboratory has the code.
 
-ghost use Rattle.std.specs.Prelude.{◌≡◌, All, Ok, IsTrue, IfOk, OnOk};
-ghost use Rattle.lab_records_keeper.specs.Worlds.{Given, Quiet};
+ghost use Rattle.std.specs.Prelude.{◌≡◌, All, Ok, IsTrue, IfErr, IfOk, OnOk};
+ghost use Rattle.lab_records_keeper.specs.Worlds.{Given, KeeperFaultFits, Quiet};
 ghost use Rattle.lab_records_kept.specs.Parts.{part_of};
 ghost use Rattle.lab_records_laws.specs.Asking.{IsCommandFormed};
 ghost use Rattle.lab_records_machine.specs.Needs.{need_of};
 ghost use Rattle.lab_wire.specs.Replies.{reply_text};
-ghost use Rattle.lab_desk_events.specs.Calls.{EndsCall, Loads};
+ghost use Rattle.lab_records_keeper.specs.Calls.{EndsCall, Loads};
+ghost use Rattle.lab_desk_events.specs.Causes.{RefusesAsked};
 ghost use Rattle.lab_desk_events.specs.Copies.{IsAskedLegibly};
 ghost use Rattle.lab_desk_events.specs.Keeping.{AreWithin};
 ghost use Rattle.lab_desk_events.specs.Requests.{answer_to, changes_for, is_idle, DoesStep};
@@ -35,6 +36,8 @@ fn load_needed<S: Keeper>(
         ((S.world keeper.old).meaning asked.now.lab))) }
     ensures loads { Loads (S.world keeper.old) (S.world keeper.new)
         (S.rests keeper.old keeper.new) result }
+    ensures cause { IfErr result (KeeperFaultFits (S.refuses_load keeper.old keeper.new
+        asked.now.lab (need_of tick.now asked.now.instruction))) }
 {
     let need = needs(tick, &asked.instruction)?;
     let loaded = keeper.load(&asked.lab, &need);
@@ -70,6 +73,8 @@ pub fn answer_asked<S: Keeper>(
         (answer_to (S.world keeper.old).meaning tick.now (Ok asked)))) }
     ensures ends { EndsCall (S.world keeper.old) (S.world keeper.new)
         (S.rests keeper.old keeper.new) result }
+    ensures cause { IfErr result (KeeperFaultFits
+        (RefusesAsked S.Keeper keeper.old keeper.new tick.now asked)) }
     ensures quiet { IsTrue (is_idle ((S.world keeper.old).meaning asked.lab) tick.now
         asked.instruction) →
         Given (S.world keeper.old) (S.world keeper.new)

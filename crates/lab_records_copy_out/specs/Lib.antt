@@ -1,3 +1,4 @@
+pub mod Causes
 pub mod Walks
 pub mod Resting
 pub mod Faults

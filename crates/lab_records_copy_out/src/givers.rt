@@ -1,6 +1,6 @@
 //! How the rows of records are written from a keeper.
 
-ghost use Rattle.std.specs.Prelude.{◌≡◌, ◌≤◌, IfErr, OnOk};
+ghost use Rattle.std.specs.Prelude.{◌≡◌, ◌≤◌, ℕ, List, IfErr, OnOk};
 ghost use Rattle.lab_copy_rows.specs.Outs.{Sends, counted_all};
 ghost use Rattle.lab_records_keeper.specs.Worlds.{Given};
 ghost use Rattle.lab_forms_texts.specs.Ordinals.{last_ordinal};
@@ -20,6 +20,10 @@ use std::io::Write;
 
 /// A way to write the rows of records from a keeper.
 pub trait RecordGiver<S: Keeper> {
+    /// Why the store may refuse the records of the laboratory with this code, from a number to a
+    /// last one, in a call between these two moments.
+    ghost refuses_records: { S → S → List ℕ → ℕ → ℕ → Type 0 };
+
     /// Writes the rows of the records from a number to a last one, and reports the progress after
     /// each record.
     ///
@@ -50,6 +54,8 @@ pub trait RecordGiver<S: Keeper> {
             })) }
         ensures fault { IfErr result
             (CopyFaultFits ⊥ (S.world keeper.old).may_refuse (Unit {0})) }
+        ensures cause { IfErr result (CopyFaultFits ⊥
+            (refuses_records keeper.old keeper.new lab.now from last) (Unit {0})) }
         ensures lives { (S.world keeper.old).is_live →
             Given (S.world keeper.old) (S.world keeper.new)
             (OnOk result (S.world keeper.new).is_live) }
@@ -61,6 +67,10 @@ pub trait RecordGiver<S: Keeper> {
 pub struct WholeRecords;
 
 impl<S: Keeper> RecordGiver<S> for WholeRecords {
+    ghost use Rattle.lab_records_copy_out.specs.Causes.{RefusesOne};
+
+    ghost refuses_records = { RefusesOne S.Keeper };
+
     fn give_records<W: Write, P: Progress>(
         &self,
         alloc: Global,

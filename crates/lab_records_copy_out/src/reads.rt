@@ -26,6 +26,8 @@ pub(crate) fn head_of<S: Keeper>(
     ensures lives { Given (S.world keeper.old) (S.world keeper.new)
         (OnOk result (Lives (S.world keeper.old) (S.world keeper.new))) }
     ensures fault { IfErr result (KeeperFaultFits (S.world keeper.old).may_refuse) }
+    ensures cause { IfErr result (KeeperFaultFits
+        (S.refuses_load keeper.old keeper.new lab.now (record_need None))) }
     ensures read { IsOnlyRead S.world S.rests keeper.old keeper.new }
 {
     let need = Need {
@@ -56,6 +58,8 @@ pub(crate) fn read_record<S: Keeper>(
     ensures lives { Given (S.world keeper.old) (S.world keeper.new)
         (OnOk result (Lives (S.world keeper.old) (S.world keeper.new))) }
     ensures fault { IfErr result (KeeperFaultFits (S.world keeper.old).may_refuse) }
+    ensures cause { IfErr result (KeeperFaultFits (S.refuses_load keeper.old keeper.new lab.now
+        (record_need (option_map (λ n. Numbered n) (ordinal_of number))))) }
     ensures read { IsOnlyRead S.world S.rests keeper.old keeper.new }
 {
     let need = need_of(number);

@@ -4,6 +4,7 @@ ghost use Rattle.std.specs.Prelude.{◌≡◌, ◌≤◌, None, Err, IsSome, IfE
 ghost use Rattle.lab_copy_rows.specs.Outs.{Sends};
 ghost use Rattle.lab_records_keeper.specs.Worlds.{Given, Lives};
 ghost use Rattle.lab_forms_texts.specs.Ordinals.{last_ordinal};
+ghost use Rattle.lab_records_copy_out.specs.Causes.{RefusesCopy};
 ghost use Rattle.lab_records_copy_out.specs.Faults.{CopyFaultFits, OnTold};
 ghost use Rattle.lab_records_copy_out.specs.Legible.{CanCopy, SendsSound};
 ghost use Rattle.lab_records_copy_out.specs.Resting.{IsOnlyRead};
@@ -61,6 +62,8 @@ pub fn copy_out<S: Keeper, G: RecordGiver<S>, W: Write, P: Progress>(
         (S.world keeper.old).may_refuse
         (Given (S.world keeper.old) (S.world keeper.new)
         (IsSome ((S.world keeper.old).meaning lab.now)))) }
+    ensures cause { IfErr result (CopyFaultFits (Unit {0}) (RefusesCopy S.Keeper
+        G.refuses_records keeper.old keeper.new lab.now from to) (Unit {0})) }
     ensures nothing { result ≡ Err CopyOutFault.NoSuchLab → writer.new ≡ writer.old }
     ensures lives { Given (S.world keeper.old) (S.world keeper.new)
         (OnTold result (Lives (S.world keeper.old) (S.world keeper.new))) }
@@ -97,6 +100,8 @@ fn copy_under<S: Keeper, G: RecordGiver<S>, W: Write, P: Progress>(
         (walked_to ((S.world keeper.old).meaning line.lab) line.from last)) result) }
     ensures fault { IfErr result
         (CopyFaultFits ⊥ (S.world keeper.old).may_refuse (Unit {0})) }
+    ensures cause { IfErr result (CopyFaultFits ⊥
+        (G.refuses_records keeper.old keeper.new line.lab line.from last) (Unit {0})) }
     ensures lives { (S.world keeper.old).is_live →
         Given (S.world keeper.old) (S.world keeper.new)
         (OnOk result (S.world keeper.new).is_live) }

@@ -1,14 +1,16 @@
 //! Records that are written whole, one after the other: each is read, its rows are written, and it
 //! is dropped.
 
-ghost use Rattle.std.specs.Prelude.{◌≡◌, ◌≤◌, [], ◌∷◌, IfErr, OnOk, option_to_list};
+ghost use Rattle.std.specs.Prelude.{◌≡◌, ◌≤◌, [], ◌∷◌, IfErr, OnOk, option_map, option_to_list};
+ghost use Rattle.lab_records_kept.specs.declared.needs.RecordWanted.TheVariants.{Numbered};
 ghost use Rattle.lab_copy_rows.specs.Outs.{Sends, counted_all};
 ghost use Rattle.lab_records_keeper.specs.Worlds.{Given, Lives};
-ghost use Rattle.lab_forms_texts.specs.Ordinals.{last_ordinal};
+ghost use Rattle.lab_forms_texts.specs.Ordinals.{last_ordinal, ordinal_of};
 ghost use Rattle.lab_copy_rows.specs.Csv.{csv_text};
+ghost use Rattle.lab_records_copy_out.specs.Causes.{RefusesOne};
 ghost use Rattle.lab_records_copy_out.specs.Faults.{CopyFaultFits};
 ghost use Rattle.lab_records_copy_out.specs.Resting.{IsOnlyRead};
-ghost use Rattle.lab_records_copy_out.specs.Walks.{record_at, record_rows, walked_to};
+ghost use Rattle.lab_records_copy_out.specs.Walks.{record_at, record_need, record_rows, walked_to};
 
 use crate::CopyOutFault;
 use crate::progress::Progress;
@@ -49,6 +51,8 @@ pub(crate) fn give_wholes<S: Keeper, W: Write, P: Progress>(
         })) }
     ensures fault { IfErr result
         (CopyFaultFits ⊥ (S.world keeper.old).may_refuse (Unit {0})) }
+    ensures cause { IfErr result (CopyFaultFits ⊥
+        (RefusesOne S.Keeper keeper.old keeper.new lab.now from last) (Unit {0})) }
     ensures lives { (S.world keeper.old).is_live →
         Given (S.world keeper.old) (S.world keeper.new)
         (OnOk result (S.world keeper.new).is_live) }
@@ -85,6 +89,8 @@ fn give_at<S: Keeper, W: Write>(
         })) }
     ensures fault { IfErr result
         (CopyFaultFits ⊥ (S.world keeper.old).may_refuse (Unit {0})) }
+    ensures cause { IfErr result (CopyFaultFits ⊥ (S.refuses_load keeper.old keeper.new lab.now
+        (record_need (option_map (λ n. Numbered n) (ordinal_of number)))) (Unit {0})) }
     ensures lives { Given (S.world keeper.old) (S.world keeper.new)
         (OnOk result (Lives (S.world keeper.old) (S.world keeper.new))) }
     ensures read { IsOnlyRead S.world S.rests keeper.old keeper.new }

@@ -1,7 +1,7 @@
 -- Values from outside, so that a wrong rule in the definitions does not check: which laboratory stands at a
 -- code, what a founding appends (docs/LABORATORY.md), what is loaded of one, and what changes set in it and
 -- leave in another. Both laboratories have a dan, and a session of one token.
-use Rattle.std.proofs.Common.{◌≡◌, ℕ, true, false, List, [], ◌∷◌, ◌++◌, map, replicate, Some, None, refl, ap, true≢false}
+use Rattle.std.proofs.Common.{◌≡◌, ℕ, true, List, [], ◌∷◌, ◌++◌, map, replicate, Some, None, refl, ap, true≢false}
 use Rattle.std.specs.Prelude.{codes}
 use Rattle.std.specs.Str.{bytes_eq}
 use Rattle.lab_people_access.specs.declared.persons.Person.{Person}

@@ -64,6 +64,13 @@ impl Keeper for Lists {
 
     ghost places = { λ old new lab. new ≡ old ++ lab ∷ [] };
 
+    // A list has no store that could refuse.
+    ghost refuses_load = { λ _ _ _ _. ⊥ };
+
+    ghost refuses_changes = { λ _ _ _ _. ⊥ };
+
+    ghost refuses_founding = { λ _ _ _. ⊥ };
+
     fn load(&mut self, code: &LabCode, need: &Need) -> Result<Option<Slice>, KeeperFault> {
         let alloc = *self.labs.allocator();
         Ok(part_in(&mut self.labs, alloc, code, need)?)

@@ -4,9 +4,9 @@ use Rattle.lab_desk.proofs.desk.Desk.answers.Goals as goal
 
 pub returns-in-Ok-clause-asked : goal.returns-in-Ok-clause-asked
 returns-in-Ok-clause-asked g c = rw (← c.self.view_is) (
-    let loaded = c.load.ensures in
+    let loaded = c.load.ensures.loads in
     record {
-      lives = c.in-Ok.ensures.lives;
+      lives = c.in-Ok.ensures.loads.lives;
       same = loaded.same;
       rows = loaded.rows;
       quiet = loaded.crash;
@@ -20,7 +20,7 @@ returns-in-Ok-clause-asked g c = rw (← c.self.view_is) (
 
 pub returns-clause-asked : goal.returns-clause-asked
 returns-clause-asked g c = rw (← c.self.view_is) (
-    let loaded = c.load.ensures in
+    let loaded = c.load.ensures.loads in
     record {
       lives = λ honest reached. tt;
       same = loaded.same;

@@ -14,35 +14,36 @@ returns-clause-founds g c = rw (← c.self.view_is) (
     let new = g.S.Keeper.world c.found.new.self in
     let lab = newborn_lab c.in_ok-newborn.newborn in
     let newly = c.in_ok-newborn.ensures.born in
-    let back = c.found.ensures.passes.live in
+    let back = c.found.ensures.founds.passes.live in
     record {
       founded = λ honest reached.
           founds_as old new (g.S.Keeper.places c.self.inside.keeper c.found.new.self) _ _ _ lab newly
-          (c.in_ok-found.ensures.founded honest reached) (c.in_ok-found.ensures.rows honest reached);
+          (c.in_ok-found.ensures.founds.founded honest reached) (c.in_ok-found.ensures.founds.rows honest reached);
       err = search rules;
       rows_err = search rules;
       fault = search rules;
+      cause = search rules;
       lives = search rules;
       untouched = search rules;
       crash = search rules;
       quiet = search rules;
       durable = search rules;
       stays = λ honest reached.
-          let placed = c.in_ok-found.ensures.founded honest reached in
+          let placed = c.in_ok-found.ensures.founds.founded honest reached in
           record {
             within = placed_within old new c.args.lab.now c.args.tick.now newly.founding lab
                 newly.bears (back honest) placed;
             releasing = placed_releasing old new c.args.lab.now c.args.tick.now newly.founding lab
                 newly.bears (back honest) placed;
             keeps = placed_keeps old new lab placed;
-            reached = c.found.ensures.reached honest reached;
-            safe = c.found.ensures.safe honest reached;
+            reached = c.found.ensures.founds.reached honest reached;
+            safe = c.found.ensures.founds.safe honest reached;
             legible = placed_legible old new lab (back honest) placed c.newborn_is_legible.ensures;
             left_within = placed_leaves_within old new c.args.lab.now c.args.tick.now newly.founding
-                lab newly.bears (c.found.ensures.crash honest reached);
+                lab newly.bears (c.found.ensures.founds.crash honest reached);
             left_releasing = placed_leaves_releasing old new c.args.lab.now c.args.tick.now
-                newly.founding lab newly.bears (c.found.ensures.crash honest reached);
-            again = c.found.ensures.shuts honest reached;
+                newly.founding lab newly.bears (c.found.ensures.founds.crash honest reached);
+            again = c.found.ensures.founds.shuts honest reached;
           };
       passes = search rules;
     })
@@ -58,6 +59,7 @@ returns-in_err-found-clause-founds g c = rw (← c.self.view_is) (
       err = search rules;
       rows_err = search rules;
       fault = search rules;
+      cause = search rules;
       lives = search rules;
       untouched = search rules;
       crash = search rules;
@@ -65,12 +67,12 @@ returns-in_err-found-clause-founds g c = rw (← c.self.view_is) (
       durable = search rules;
       stays = λ honest reached.
           left_stays old new
-          (c.found.ensures.passes.live honest) (c.in_err-found.ensures.err honest reached)
-          (c.found.ensures.reached honest reached) (c.found.ensures.safe honest reached)
+          (c.found.ensures.founds.passes.live honest) (c.in_err-found.ensures.founds.err honest reached)
+          (c.found.ensures.founds.reached honest reached) (c.found.ensures.founds.safe honest reached)
           (placed_leaves_within old new c.args.lab.now c.args.tick.now newly.founding lab newly.bears
-          (c.found.ensures.crash honest reached))
+          (c.found.ensures.founds.crash honest reached))
           (placed_leaves_releasing old new c.args.lab.now c.args.tick.now newly.founding lab
-          newly.bears (c.found.ensures.crash honest reached)) (c.found.ensures.shuts honest reached);
+          newly.bears (c.found.ensures.founds.crash honest reached)) (c.found.ensures.founds.shuts honest reached);
       passes = search rules;
     })
 
@@ -80,6 +82,7 @@ returns-in_err-newborn-clause-founds g c = record {
   err = search rules;
   rows_err = search rules;
   fault = search rules;
+  cause = search rules;
   lives = search rules;
   untouched = search rules;
   crash = search rules;

@@ -17,6 +17,7 @@ returns g c = λ bytes asks.
           (answered.ensures.ends.err honest reached) within;
       told = answered.ensures.reply;
       ends = answered.ensures.ends;
+      cause = answered.ensures.cause;
       quiet = answered.ensures.quiet;
       does = answered.ensures.does;
       replied = c.keep.ensures.replied;

@@ -1,7 +1,7 @@
 -- A laboratory is added at the end of the list; what a crash leaves is the list itself.
-use Rattle.std.proofs.Common.{rules, ◌≡◌, List, [], ◌∷◌, ◌++◌, None, ◌∙◌, ap, inl, inr}
-use Rattle.lab_records_kept.specs.declared.labs.Lab.{Lab}
+use Rattle.std.proofs.Common.{rules, ◌≡◌, [], ◌∷◌, ◌++◌, None, inr}
 use Rattle.lab_records_kept.specs.Births.{newborn_lab}
+use Rattle.lab_records_keeper.specs.Worlds.{Places}
 use Rattle.lab_records_memory.specs.Lists.{lab_of}
 use Rattle.lab_records_memory.proofs.Listing.{added_meaning, placed_as}
 use Rattle.lab_records_memory.proofs.lists.ListsKeeper.found.Goals as goal
@@ -14,15 +14,24 @@ added : (c : goal.In_ok-push) →
     c.push.new.self.items ≡ c.args.self.now ++ newborn_lab c.args.newborn ∷ []
 added c = search rules
 
-pub returns-in_err-push-clause-crash : goal.returns-in_err-push-clause-crash
-returns-in_err-push-clause-crash c = λ honest reached live held left.
-    let same : c.push.new.self.items ≡ c.args.self.now = search rules in
-    inl (λ code. left code ∙ ap (λ (labs : List Lab). lab_of labs code) same)
-
-pub returns-clause-founded : goal.returns-clause-founded
-returns-clause-founded c = λ honest reached.
-    rw (added c) (added_meaning c.args.self.now (newborn_lab c.args.newborn) (was_none c))
-
-pub returns-clause-crash : goal.returns-clause-crash
-returns-clause-crash c = λ honest reached live held left.
-    inr (placed_as _ _ _ held (returns-clause-founded c honest reached) left)
+pub returns-clause-founds : goal.returns-clause-founds
+returns-clause-founds c =
+    let founded : Places (newborn_lab c.args.newborn) (lab_of c.args.self.now)
+    (lab_of c.push.new.self.items) =
+    rw (added c) (added_meaning c.args.self.now (newborn_lab c.args.newborn) (was_none c)) in
+    record {
+      founded = λ honest reached. founded;
+      err = search rules;
+      rows = λ honest reached. added c;
+      rows_err = search rules;
+      lives = search rules;
+      fault = search rules;
+      crash = λ honest reached live held left.
+          inr (placed_as _ _ _ held founded left);
+      safe = search rules;
+      durable = λ honest reached. (λ held left. left, tt);
+      quiet = search rules;
+      reached = search rules;
+      shuts = search rules;
+      passes = search rules;
+    }
