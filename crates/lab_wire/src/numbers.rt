@@ -2,11 +2,11 @@
 ghost use Rattle.std.specs.Prelude.{◌≡◌};
 ghost use Rattle.lab_wire.specs.Numbers.{ordinal_in};
 
-use lab_forms_texts::Ordinal;
+use lab_forms_texts::{LAST_ORDINAL, Ordinal};
 use lab_seal::fields::value_of;
 
 /// The last ordinal.
-const LAST: usize = 1_000_000_000;
+const LAST: usize = LAST_ORDINAL as usize;
 
 /// Returns the number of a record, of a version, or of a row of the trail, from its decimal digits
 /// without leading zeros.

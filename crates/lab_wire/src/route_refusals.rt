@@ -5,6 +5,8 @@ ghost use Rattle.lab_wire.specs.RouteRefusals.{allowed_text, route_entry};
 
 use lab_forms_texts::{Fault, RefusalKind};
 use lab_wire_members::BodyRefusal;
+use std::fmt;
+use thiserror::Error;
 
 /// The methods that a place has commands for.
 #[derive(Clone, Copy, Debug, PartialEq, Eq)]
@@ -30,8 +32,8 @@ impl Allowed {
     }
 }
 
-/// Why a request asks nothing of a laboratory.
-#[derive(Clone, Copy, Debug, PartialEq, Eq)]
+/// Why a request asks nothing of a laboratory. A refusal is printed as its word.
+#[derive(Clone, Copy, Debug, PartialEq, Eq, Error)]
 pub enum RouteRefusal {
     /// No such place exists.
     NoRoute,
@@ -50,6 +52,17 @@ impl RefusalKind for RouteRefusal {
             RouteRefusal::Method(_) => (87, "method"),
             RouteRefusal::Body(refusal) => refusal.entry(),
         }
+    }
+}
+
+impl fmt::Display for RouteRefusal {
+    ghost use Rattle.std.specs.Prelude.{Some};
+    ghost use Rattle.lab_wire.specs.RouteRefusals.{route_entry};
+
+    ghost output = { λ refusal. Some (route_entry refusal).word };
+
+    fn fmt<W: fmt::Write>(&self, f: &mut fmt::Formatter<W>) -> fmt::Result {
+        f.write_str(self.word())
     }
 }
 

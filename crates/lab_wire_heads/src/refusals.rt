@@ -9,8 +9,8 @@ use std::alloc::AllocError;
 use std::fmt;
 use thiserror::Error;
 
-/// Why bytes aren't a request.
-#[derive(Clone, Copy, Debug, PartialEq, Eq)]
+/// Why bytes aren't a request. A refusal is printed as its word.
+#[derive(Clone, Copy, Debug, PartialEq, Eq, Error)]
 pub enum HeadRefusal {
     /// The bytes don't begin with a whole request head, or the head doesn't have exactly one Host,
     /// or a field has a value that no field may have.
@@ -39,6 +39,17 @@ impl RefusalKind for HeadRefusal {
             HeadRefusal::BodyTooLong => (84, "body_too_long"),
             HeadRefusal::ShortBody => (85, "short_body"),
         }
+    }
+}
+
+impl fmt::Display for HeadRefusal {
+    ghost use Rattle.std.specs.Prelude.{Some};
+    ghost use Rattle.lab_wire_heads.specs.Refusals.{head_entry};
+
+    ghost output = { λ refusal. Some (head_entry refusal).word };
+
+    fn fmt<W: fmt::Write>(&self, f: &mut fmt::Formatter<W>) -> fmt::Result {
+        f.write_str(self.word())
     }
 }
 

@@ -10,13 +10,10 @@ ghost use Rattle.serde_json.specs.Find.{get, as_bool, as_str};
 ghost use Rattle.serde_json.specs.View.{view};
 ghost use Rattle.lab_wire_members.specs.Members.{whole_in, ordinal_in, digest_in, list_in, names_role, role_of, role_in, role_added, roles_with, roles_in, is_text_member, is_of, rule_shown, keeps, has_members, at, elements_at, each_has};
 
-use lab_forms_texts::Ordinal;
+use lab_forms_texts::{LAST_ORDINAL, Ordinal};
 use lab_people_access::{Role, Roles};
 use lab_seal_hashes::Digest;
 use serde_json::Value;
-
-/// The last ordinal.
-const LAST: u64 = 1_000_000_000;
 
 /// The kind of a member's value.
 #[derive(Clone, Copy, Debug, PartialEq, Eq, Drop)]
@@ -86,7 +83,7 @@ pub fn whole_in(value: &Value) -> Option<u32>
 fn ordinal_of(number: u64) -> Option<Ordinal>
     ensures { result ≡ ordinal_of number }
 {
-    if number > LAST {
+    if number > u64::from(LAST_ORDINAL) {
         return None;
     }
     Ordinal::new(number as u32)

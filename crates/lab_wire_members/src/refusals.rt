@@ -4,9 +4,11 @@ ghost use Rattle.lab_wire_members.specs.Refusals.{body_entry};
 
 use lab_forms::FormRefusal;
 use lab_forms_texts::{Fault, RefusalKind};
+use std::fmt;
+use thiserror::Error;
 
-/// Why a body names nothing of its kind.
-#[derive(Clone, Copy, Debug, PartialEq, Eq)]
+/// Why a body names nothing of its kind. A refusal is printed as its word.
+#[derive(Clone, Copy, Debug, PartialEq, Eq, Error)]
 pub enum BodyRefusal {
     /// The body doesn't have the form that the command needs.
     BadBody,
@@ -25,6 +27,17 @@ impl RefusalKind for BodyRefusal {
             BodyRefusal::BadName => (1, "bad_name"),
             BodyRefusal::Form(refusal) => refusal.entry(),
         }
+    }
+}
+
+impl fmt::Display for BodyRefusal {
+    ghost use Rattle.std.specs.Prelude.{Some};
+    ghost use Rattle.lab_wire_members.specs.Refusals.{body_entry};
+
+    ghost output = { λ refusal. Some (body_entry refusal).word };
+
+    fn fmt<W: fmt::Write>(&self, f: &mut fmt::Formatter<W>) -> fmt::Result {
+        f.write_str(self.word())
     }
 }
 
