@@ -1,3 +1,4 @@
+pub mod Causes
 pub mod Commits
 mod Faults
 mod Statements

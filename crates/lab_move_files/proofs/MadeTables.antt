@@ -1,11 +1,11 @@
 -- What each statement makes of a file that is to be filled.
-use Rattle.std.proofs.Common.{◌≡◌, ◌⊎◌, inl, inr, ℕ, zero, suc, ◌+◌, ◌<◌, List, [], ◌∷◌, ◌++◌, map, take, length, get_or, false, None, Ok, Err, Result, OnOk, IsTrue, refl, sym, ap, subst, ◌∙◌, append-nil, append_assoc, arith}
-use Rattle.std.specs.List.{AllByRecursion}
-use Rattle.std.specs.Result.{IsErr}
-use Rattle.std.proofs.lemmas.Bool.{false≢true}
+use Rattle.std.proofs.Common.{◌≡◌, ◌⊎◌, inl, inr, ℕ, zero, suc, ◌+◌, ◌<◌, List, [], ◌∷◌, ◌++◌, map, take, length, get_or, false, None, Ok, Err, Result, IfErr, OnOk, IsTrue, refl, sym, ap, subst, ◌∙◌, append-nil, append_assoc, arith}
+use Rattle.std.specs.Prelude.{IsErrAnd}
+use Rattle.std.specs.List.{AllByRecursion, Contains}
 use Rattle.std.proofs.lemmas.List.{length-map, get_or-map}
 use Rattle.std.proofs.lemmas.List.Sums.{fold_more}
-use Rattle.std.proofs.lemmas.Result.{on_ok_weaker}
+use Rattle.std.proofs.lemmas.List.Elements.{Contains-append_left, Contains-append_right, Contains-get_or}
+use Rattle.std.proofs.lemmas.Result.{IfErr-weaker, on_ok_weaker}
 use Rattle.sqlite_trees.specs.Tree.{Trees}
 use Rattle.sqlite_schema.specs.declared.schema.Schema.{Schema}
 use Rattle.sqlite_schema.specs.declared.schema.Table.{Table}
@@ -16,7 +16,7 @@ use Rattle.sqlite_catalog.specs.Change.{created, indexed, next_tree, KeepsRows}
 use Rattle.sqlite.specs.declared.error.Error.{Error}
 use Rattle.sqlite.specs.Effect.{Database}
 use Rattle.sqlite.specs.Does.{Tally, Does, lacks_sequence}
-use Rattle.sqlite.specs.State.{State, HasCleanDisk, mode_of, Writes, Executes, ExecutesInside}
+use Rattle.sqlite.specs.State.{State, HasCleanDisk, mode_of, Survives, Writes, Executes, ExecutesInside}
 use Rattle.sqlite.proofs.Callers.{runs_as}
 use Rattle.lab_store_tables.specs.Family.{empty_tables}
 use Rattle.lab_store_tables.specs.Schema.{sessions, sessions_of_person, lab_schema}
@@ -27,7 +27,10 @@ use Rattle.lab_store_tables.specs.WellKept.{AreWellKept}
 use Rattle.lab_store_laws.proofs.Tables.{held_if_stored, none_stored, none_rising}
 use Rattle.lab_store_files.specs.NewFiles.{no_schema, IsEmptyUnder, IsBlank}
 use Rattle.lab_store_write.specs.Calls.{Stays}
+use Rattle.lab_store_write.proofs.Failing.{unmoved}
+use Rattle.lab_store_write.proofs.Inside.{none_then}
 use Rattle.lab_store_write.proofs.Writers.{stays_then}
+use Rattle.lab_move_files.specs.Causes.{making_texts, FailsMaking}
 use Rattle.lab_move_files.specs.Tables.{own_tables, schema_of}
 use Rattle.lab_move_files.specs.Unfinished.{IsUnfinished, Begins, Makes}
 use Rattle.lab_move_files.proofs.Statements.{MakesTable, AreMadeFrom, all_made, index_makes, index_text, index_plain, index_is, whole_is}
@@ -139,6 +142,18 @@ begins was db made blank =
 
 -- ---- the calls
 
+-- the statements are the file's own
+table_own : (i : ℕ) (d : Table × List ℕ) → i < length own_tables → Contains making_texts (get_or own_tables i d).1
+table_own i d within =
+    let text = λ (one : Table × List ℕ). one.1 in
+    let as_many = length-map own_tables text in
+    let low : i < length (map text own_tables) = omega (arith, as_many, within) in
+    Contains-append_left (map text own_tables) (sessions_of_person_text ∷ []) (get_or own_tables i d).1
+    (subst (Contains (map text own_tables)) (get_or-map text own_tables i d (text d) within) (Contains-get_or (map text own_tables) i (text d) low))
+
+index_own : Contains making_texts sessions_of_person_text
+index_own = Contains-append_right (map (λ (one : Table × List ℕ). one.1) own_tables) (sessions_of_person_text ∷ []) sessions_of_person_text (Contains-get_or (sessions_of_person_text ∷ []) 0 [] (omega arith))
+
 inside_stays : (sql : List ℕ) (old new : State) (r : Result ℕ Error) → ExecutesInside 0 sql [] old new r → OnOk r (IsTrue new.in_transaction)
 inside_stays sql old new (Ok count) h = h.1.mode
 inside_stays sql old new (Err e) h = tt
@@ -147,20 +162,33 @@ on_each : {A E P : Type 0} (Q : Type 0) (r : Result A E) → (P → OnOk r Q) �
 on_each Q (Ok x) f = f
 on_each Q (Err e) f = tt
 
+-- behind calls that ended well
+making_behind : {T : Type 0} (state : T → State) (a b c : T) (e : Error) → Survives (state a) (state b) (λ _. ⊥) → FailsMaking state b c e → FailsMaking state a c e
+making_behind state a b c e led (inl memory) = inl memory
+making_behind state a b c e led (inr it) =
+    inr (record { last = it.last; led = none_then (state a) (state b) (state it.last) led it.led; sql = it.sql; own = it.own; refused = it.refused })
+
 module _ {T : Type 0} {lender : T → ℕ × ℕ} {state : T → State} {old new : T} {r : Result ℕ Error} (sql : List ℕ) (stays : Stays lender state old new)
     (ran : IsTrue (state old).in_transaction → HasCleanDisk (state new) → ExecutesInside 0 sql [] (state old) (state new) r) where
-  made_by : (Was Is : Database → Type 0) → (ExecutesInside 0 sql [] (state old) (state new) r → Was (state old).now → OnOk r (Is (state new).now)) → Makes lender state Was Is old new r
-  made_by Was Is f = record {
+  made_by : (Was Is : Database → Type 0) → Contains making_texts sql → (ExecutesInside 0 sql [] (state old) (state new) r → Was (state old).now → OnOk r (Is (state new).now))
+      → Makes lender state Was Is old new r
+  made_by Was Is own f = record {
     stays = stays;
     inside = λ inside clean. inside_stays sql (state old) (state new) r (ran inside clean);
     made = λ inside clean. on_each (Is (state new).now) r (λ was. f (ran inside clean) was);
+    failed = λ inside clean. badly r (ran inside clean);
   }
+    where
+      badly : (r : Result ℕ Error) → ExecutesInside 0 sql [] (state old) (state new) r → IfErr r (FailsMaking state old new)
+      badly (Ok count) did = tt
+      badly (Err e) did = inr (record { last = old; led = unmoved (state old); sql = sql; own = own; refused = did })
 
   -- the table at a place
   pub table_makes : (i : ℕ) (d : Table × List ℕ) → i < length own_tables → sql ≡ (get_or own_tables i d).1
       → Makes lender state (IsEmptyUnder (schema_of (take i own_tables))) (IsEmptyUnder (schema_of (take (i + 1) own_tables))) old new r
   table_makes i d within is =
       made_by (IsEmptyUnder (schema_of (take i own_tables))) (IsEmptyUnder (schema_of (take (i + 1) own_tables)))
+      (subst (Contains making_texts) (sym is) (table_own i d within))
       (λ did was. subst (λ s. OnOk r (IsEmptyUnder s (state new).now)) (with_is i d within)
       (table_done (take i own_tables) (get_or own_tables i d) (made_at [] own_tables all_made i d within) (state old) (state new) r
       (subst (λ text. ExecutesInside 0 text [] (state old) (state new) r) is did) was))
@@ -169,42 +197,49 @@ module _ {T : Type 0} {lender : T → ℕ × ℕ} {state : T → State} {old new
   pub index_makes_all : sql ≡ sessions_of_person_text → Makes lender state (IsEmptyUnder (schema_of own_tables)) IsUnfinished old new r
   index_makes_all is =
       made_by (IsEmptyUnder (schema_of own_tables)) IsUnfinished
+      (subst (Contains making_texts) (sym is) index_own)
       (λ did was. on_ok_weaker r (none_held (state new).now) (index_done (state old) (state new) r (subst (λ text. ExecutesInside 0 text [] (state old) (state new) r) is did) was))
 
 -- no call: an empty file has none of the tables
-pub none_made_yet : {T A E : Type 0} {lender : T → ℕ × ℕ} {state : T → State} {x : A} (a : T) → Stays lender state a a
-    → Makes {E = E} lender state IsBlank (IsEmptyUnder (schema_of [])) a a (Ok x)
-none_made_yet a stays = record { stays = stays; inside = λ inside clean. inside; made = λ inside clean was. record { schema_is = was; empty = tt } }
+pub none_made_yet : {T A : Type 0} {lender : T → ℕ × ℕ} {state : T → State} {x : A} (a : T) → Stays lender state a a
+    → Makes lender state IsBlank (IsEmptyUnder (schema_of [])) a a (Ok x)
+none_made_yet a stays = record { stays = stays; inside = λ inside clean. inside; made = λ inside clean was. record { schema_is = was; empty = tt }; failed = λ inside clean. tt }
 
 -- one call and then another
-pub makes_then : {T A B E F : Type 0} {lender : T → ℕ × ℕ} {state : T → State} {Was Mid Is : Database → Type 0} {a b c : T} {x : A} {s : Result B F}
-    → Makes {E = E} lender state Was Mid a b (Ok x) → Makes lender state Mid Is b c s → Makes lender state Was Is a c s
-makes_then {state = state} {b = b} {c = c} {s = s} p q = record {
+pub makes_then : {T A B : Type 0} {lender : T → ℕ × ℕ} {state : T → State} {Was Mid Is : Database → Type 0} {a b c : T} {x : A} {s : Result B Error}
+    → Makes lender state Was Mid a b (Ok x) → Makes lender state Mid Is b c s → Makes lender state Was Is a c s
+makes_then {state = state} {a = a} {b = b} {c = c} {s = s} p q = record {
   stays = stays_then p.stays p.inside q.stays;
   inside = λ inside clean. q.inside (p.inside inside (early clean)) clean;
   made = λ inside clean. on_ok_weaker s (λ more was. more (p.made inside (early clean) was)) (q.made (p.inside inside (early clean)) clean);
+  failed = λ inside clean.
+      IfErr-weaker s (FailsMaking state b c) (FailsMaking state a c) (λ e why. making_behind state a b c e p.stays.survives why) (q.failed (p.inside inside (early clean)) clean);
 }
   where
     early : HasCleanDisk (state c) → HasCleanDisk (state b)
     early clean = let it = q.stays.survives in omega (arith, it.clean)
 
 -- one call more, whose value is not told
-pub makes_on : {T A B E F : Type 0} {lender : T → ℕ × ℕ} {state : T → State} {Was Mid Is : Database → Type 0} {a b c : T} {x : A} {y : B}
-    → Makes {E = E} lender state Was Mid a b (Ok x) → Makes {E = F} lender state Mid Is b c (Ok y) → Makes {E = E} lender state Was Is a c (Ok x)
+pub makes_on : {T A B : Type 0} {lender : T → ℕ × ℕ} {state : T → State} {Was Mid Is : Database → Type 0} {a b c : T} {x : A} {y : B}
+    → Makes lender state Was Mid a b (Ok x) → Makes lender state Mid Is b c (Ok y) → Makes lender state Was Is a c (Ok x)
 makes_on p q =
     let it = makes_then p q in
-    record { stays = it.stays; inside = λ inside clean. it.inside inside clean; made = λ inside clean. it.made inside clean }
+    record { stays = it.stays; inside = λ inside clean. it.inside inside clean; made = λ inside clean. it.made inside clean; failed = λ inside clean. tt }
 
 -- one that failed
-pub makes_failed : {T A B C E F G : Type 0} {lender : T → ℕ × ℕ} {state : T → State} {Was Mid More Is : Database → Type 0} {a b c : T} {x : A} {s : Result C G}
-    (r : Result B F) → IsErr r → Makes {E = E} lender state Was Mid a b (Ok x) → Makes lender state Mid More b c s → Makes lender state Was Is a c r
-makes_failed (Ok value) told p q = absurd (false≢true told)
-makes_failed (Err e) told p q = record { stays = stays_then p.stays p.inside q.stays; inside = λ inside clean. tt; made = λ inside clean. tt }
+pub makes_stopped : {T B C : Type 0} {lender : T → ℕ × ℕ} {state : T → State} {Was More Is : Database → Type 0} {a c : T} {e : Error} (r : Result B Error) → IsErrAnd r (λ d. d ≡ e)
+    → Makes {A = C} lender state Was More a c (Err e) → Makes lender state Was Is a c r
+makes_stopped (Ok value) told q = absurd told
+makes_stopped {state = state} {a = a} {c = c} (Err d) told q = record {
+  stays = q.stays;
+  inside = λ inside clean. tt;
+  made = λ inside clean. tt;
+  failed = λ inside clean. subst (FailsMaking state a c) (sym told) (q.failed inside clean);
+}
 
-pub makes_stopped : {T B C F G : Type 0} {lender : T → ℕ × ℕ} {state : T → State} {Was More Is : Database → Type 0} {a c : T} {s : Result C G} (r : Result B F) → IsErr r
-    → Makes lender state Was More a c s → Makes lender state Was Is a c r
-makes_stopped (Ok value) told q = absurd (false≢true told)
-makes_stopped (Err e) told q = record { stays = q.stays; inside = λ inside clean. tt; made = λ inside clean. tt }
+pub makes_failed : {T A B C : Type 0} {lender : T → ℕ × ℕ} {state : T → State} {Was Mid More Is : Database → Type 0} {a b c : T} {x : A} {e : Error}
+    (r : Result B Error) → IsErrAnd r (λ d. d ≡ e) → Makes lender state Was Mid a b (Ok x) → Makes {A = C} lender state Mid More b c (Err e) → Makes lender state Was Is a c r
+makes_failed r told p q = makes_stopped r told (makes_then p q)
 
 -- ---- the statements, as a list of texts
 

@@ -1,5 +1,5 @@
 -- What the statement that names the schema means, and what it makes of the tables.
-use Rattle.std.proofs.Common.{◌≡◌, ℕ, pos, List, [], ◌∷◌, codes, Ok, refl, sym, ap, subst, ◌∙◌}
+use Rattle.std.proofs.Common.{◌≡◌, ℕ, pos, List, [], ◌∷◌, codes, Ok, refl, sym, ap, subst, lit≤}
 use Rattle.sqlite_value.specs.declared.value.Value.TheVariants.{Null, Int}
 use Rattle.sqlite_value.specs.Order.{Row}
 use Rattle.sqlite_schema.specs.declared.command.Command.TheVariants.{Insert}
@@ -7,7 +7,7 @@ use Rattle.sqlite_schema.specs.declared.command.Source.TheVariants.{Values}
 use Rattle.sqlite_sql.specs.Term.{Term, lit}
 use Rattle.sqlite_tied.specs.Compute.{everything}
 use Rattle.sqlite_rules.specs.Cast.{cast_row}
-use Rattle.sqlite_keyed.specs.Keyed.{IsKeyedBy, next_key, insert_by}
+use Rattle.sqlite_keyed.specs.Keyed.{next_key, insert_by}
 use Rattle.sqlite_keyed.proofs.KeyedLemmas.{IsKeyedBy-insert_by, next_key_is_free}
 use Rattle.sqlite.specs.Effect.{Database}
 use Rattle.sqlite.specs.Listing.{understood}
@@ -23,8 +23,10 @@ use Rattle.lab_store_tables.specs.Ready.{tables_of}
 use Rattle.lab_store_tables.specs.Family.{Desk}
 use Rattle.lab_store_laws.proofs.Tables.{held_if_stored, stored_with, rising_with}
 use Rattle.lab_store_write.specs.Calls.{Steps}
+use Rattle.lab_store_write.specs.Causes.{IsOurs}
 use Rattle.lab_store_write.proofs.Writes.{cast_int, cast_null, add_next}
 use Rattle.lab_store_write.proofs.Inside.{Wrote}
+use Rattle.lab_store_write.proofs.Ours.{ours}
 use Rattle.lab_move_files.specs.Unfinished.{Finishes}
 use Rattle.lab_move_laws.specs.Namings.{naming_row, put_naming, NamesSchema}
 
@@ -43,6 +45,10 @@ naming_plain = (refl, refl)
 naming_is : command_of (understood lab_schema naming_text) ≡ Insert 0 (Values naming_terms 3)
 unfolding understood everything
 naming_is = refl
+
+pub naming_ours : IsOurs naming_text []
+unfolding understood everything
+naming_ours = ours _ _ (lit≤ tt, refl, refl, refl) refl
 
 abbrev naming_tail : Row
 naming_tail = Null ∷ number 3 ∷ []

@@ -1,3 +1,4 @@
+pub mod Causes
 pub mod Commits
 pub mod Tables
 pub mod Unfinished

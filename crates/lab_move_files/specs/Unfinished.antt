@@ -1,7 +1,8 @@
 -- A file that is to be filled: the twelve tables, none of which has a row. The one that names the
 -- schema comes last, so that a file which was left before is none in which laboratories are kept
 -- (21 CFR 11.10(a), "the ability to discern invalid or altered records").
-use Rattle.std.specs.Prelude.{◌≡◌, ℕ, List, [], None, Result, OnOk, IsTrue}
+use Rattle.std.specs.Prelude.{◌≡◌, ℕ, List, [], None, Result, IfErr, OnOk, IsTrue}
+use Rattle.sqlite.specs.declared.error.Error.{Error}
 use Rattle.sqlite.specs.Effect.{Database}
 use Rattle.sqlite.specs.State.{State, HasCleanDisk}
 use Rattle.lab_records_keeper.specs.Worlds.{SameMeaning}
@@ -13,6 +14,7 @@ use Rattle.lab_store_tables.specs.Ready.{IsKept}
 use Rattle.lab_store_tables.specs.WellKept.{AreWellKept}
 use Rattle.lab_store_files.specs.NewFiles.{IsBlank}
 use Rattle.lab_store_write.specs.Calls.{Stays}
+use Rattle.lab_move_files.specs.Causes.{FailsMaking}
 
 abbrev pub IsUnfinished : Database → Type 0
 IsUnfinished db = Holds db empty_tables
@@ -35,8 +37,8 @@ Finishes was db =
     → IsKept db × SameMeaning (meaning (tables_in was.trees)) (meaning (tables_in db.trees))
 
 -- a call inside a transaction, which makes the one of the other
-pub record Makes {T A E : Type 0} (lender : T → ℕ × ℕ) (state : T → State)
-    (Was Is : Database → Type 0) (old new : T) (result : Result A E) : Type 0 where
+pub record Makes {T A : Type 0} (lender : T → ℕ × ℕ) (state : T → State)
+    (Was Is : Database → Type 0) (old new : T) (result : Result A Error) : Type 0 where
   -- however it ends, it commits nothing
   pub stays : Stays lender state old new
   -- where it ended well, the transaction goes on, and what was so is so
@@ -44,3 +46,6 @@ pub record Makes {T A E : Type 0} (lender : T → ℕ × ℕ) (state : T → Sta
       → OnOk result (IsTrue (state new).in_transaction)
   pub made : IsTrue (state old).in_transaction → HasCleanDisk (state new)
       → OnOk result (Was (state old).now → Is (state new).now)
+  -- it failed for want of memory, or because one of its statements was refused
+  pub failed : IsTrue (state old).in_transaction → HasCleanDisk (state new)
+      → IfErr result (FailsMaking state old new)

@@ -4,7 +4,9 @@ ghost use Rattle.std.specs.Prelude.{◌≡◌, IfOk, IsTrue};
 ghost use Rattle.sqlite.specs.Held.{state};
 ghost use Rattle.sqlite.specs.State.{HasCleanDisk, KeepsCommit, Survives};
 ghost use Rattle.lab_store_tables.specs.Ready.{IsAtRest, IsMadeBy};
-ghost use Rattle.lab_store_write.specs.Calls.{Steps, Writes};
+ghost use Rattle.lab_store_read.specs.Cells.{storage};
+ghost use Rattle.lab_store_write.specs.Calls.{FailsFor, Steps, Writes};
+ghost use Rattle.lab_store_write.specs.Transactions.{EndsForCause, TransactionEndsForCause};
 ghost use Rattle.lab_move_files.specs.Commits.{MakesAtOnce};
 ghost use Rattle.lab_move_files.specs.Unfinished.{Finishes};
 ghost use Rattle.lab_move_laws.specs.Namings.{NamesSchema};
@@ -33,6 +35,7 @@ fn name_inside<S: Alter>(tx: &mut Transaction<'_, S>) -> Result<usize, Error>
         (state S.Store tx.old.conn.now) (state S.Store tx.new.conn.now) }
     ensures survives { Survives
         (state S.Store tx.old.conn.now) (state S.Store tx.new.conn.now) (λ _. ⊥) }
+    ensures failed { FailsFor (λ _. ⊥) (state S.Store) tx.old.conn.now tx.new.conn.now result }
 {
     let mut inside = Inside { tx };
     let made = name_schema(&mut inside);
@@ -45,6 +48,7 @@ fn commit_name<S: Alter>(conn: &mut Connection<S>) -> Result<(), Error>
     requires at_rest { IsAtRest (state S.Store conn.old) }
     ensures ends { MakesAtOnce (IsMadeBy NamesSchema (state S.Store conn.old)) result
         (state S.Store conn.old) (state S.Store conn.new) }
+    ensures cause { TransactionEndsForCause S.Store ⊥ conn.old conn.new result }
 {
     let mut tx = conn.transaction();
     name_inside(&mut tx)?;
@@ -62,6 +66,8 @@ pub fn finish<S: Alter>(conn: &mut Connection<S>) -> Result<(), ReadFault>
         (state S.Store conn.old) (state S.Store conn.new) }
     ensures finished { MakesAtOnce (Finishes (state S.Store conn.old).now) result
         (state S.Store conn.old) (state S.Store conn.new) }
+    // The store's refusal has its cause:
+    ensures cause { EndsForCause S.Store (λ fault. fault ≡ storage) ⊥ conn.old conn.new result }
 {
     match commit_name(conn) {
         Ok(()) => Ok(()),

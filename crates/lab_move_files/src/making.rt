@@ -1,6 +1,6 @@
 //! The tables of a file that is to be filled, by one commit; its schema is named once it is.
 
-ghost use Rattle.std.specs.Prelude.{◌≡◌, ◌⊎◌, ℕ, ◌+◌, ◌<◌, List, length, map, take, get_or, Err, IfErr, OnOk, IsTrue};
+ghost use Rattle.std.specs.Prelude.{◌≡◌, ◌⊎◌, ℕ, ◌+◌, ◌<◌, List, length, map, take, get_or, Err, IfErr, OnOk, IsFalse, IsTrue};
 ghost use Rattle.sqlite_schema.specs.declared.schema.Table.{Table};
 ghost use Rattle.sqlite.specs.Held.{state};
 ghost use Rattle.sqlite.specs.State.{HasCleanDisk, KeepsCommit, Survives};
@@ -8,6 +8,8 @@ ghost use Rattle.lab_store_tables.specs.Ready.{IsAtRest};
 ghost use Rattle.lab_store_files.specs.declared.faults.FileFault.TheVariants.{NotEmpty, Storage, Memory};
 ghost use Rattle.lab_store_files.specs.NewFiles.{IsEmptyUnder, IsBlank};
 ghost use Rattle.lab_store_files.specs.Schemas as spec;
+ghost use Rattle.lab_store_read.specs.Faults.{is_out_of_memory};
+ghost use Rattle.lab_move_files.specs.Causes.{FailsMaking, MakingEndsForCause};
 ghost use Rattle.lab_move_files.specs.Commits.{MakesAtOnce};
 ghost use Rattle.lab_move_files.specs.Tables.{own_tables, schema_of};
 ghost use Rattle.lab_move_files.specs.Unfinished.{IsUnfinished, Begins, Makes};
@@ -71,6 +73,8 @@ fn make_inside<S: Alter>(tx: &mut Transaction<'_, S>) -> Result<usize, Error>
         (state S.Store tx.old.conn.now) (state S.Store tx.new.conn.now) }
     ensures survives { Survives
         (state S.Store tx.old.conn.now) (state S.Store tx.new.conn.now) (λ _. ⊥) }
+    ensures failed { HasCleanDisk (state S.Store tx.new.conn.now) →
+        IfErr result (FailsMaking (state S.Store) tx.old.conn.now tx.new.conn.now) }
 {
     let mut inside = Inside { tx };
     let made = make_all(&mut inside);
@@ -83,6 +87,8 @@ fn commit_tables<S: Alter>(conn: &mut Connection<S>) -> Result<(), Error>
     requires at_rest { IsAtRest (state S.Store conn.old) }
     ensures ends { MakesAtOnce (λ db. IsBlank (state S.Store conn.old).now → IsUnfinished db) result
         (state S.Store conn.old) (state S.Store conn.new) }
+    ensures cause { MakingEndsForCause S.Store (λ e. IsFalse (is_out_of_memory e))
+        conn.old conn.new result }
 {
     let mut tx = conn.transaction();
     make_inside(&mut tx)?;
@@ -109,6 +115,8 @@ pub fn make_tables<S: Alter>(conn: &mut Connection<S>) -> Result<(), FileFault>
         IsTrue (spec.is_taken (state S.Store conn.old).now.schema) × (conn.new ≡ conn.old) }
     ensures fault { IfErr result
         (λ fault. (fault ≡ NotEmpty) ⊎ ((fault ≡ Storage) ⊎ (fault ≡ Memory))) }
+    // The store's refusal has its cause:
+    ensures cause { MakingEndsForCause S.Store (λ fault. fault ≡ Storage) conn.old conn.new result }
 {
     if is_taken(conn.schema()) {
         return Err(FileFault::NotEmpty);

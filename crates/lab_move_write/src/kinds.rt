@@ -31,7 +31,7 @@ fn add_bare<W: Writable>(tx: &mut W, lab: RowId, person: &Person) -> Result<(), 
     ensures { Writes W.lender W.state (AddsPerson lab.id (bare person.now)) tx.old tx.new result }
 {
     match unasked_person(person) {
-        Ok(one) => add_person(tx, lab, &one),
+        Ok(one) => add_person(tx, lab, None, &one),
         Err(_) => Err(Error::SqliteFailure(ErrorCode::OutOfMemory)),
     }
 }
@@ -53,7 +53,7 @@ fn set_ask<W: Writable>(tx: &mut W, lab: RowId, person: &Person) -> Result<(), E
         (map PersonSet (filter is_asked_for (person.now ∷ []))) tx.old tx.new result }
 {
     match person.ask {
-        Some(_) => set_person(tx, lab, person),
+        Some(_) => set_person(tx, lab, None, person),
         None => Ok(()),
     }
 }
@@ -75,7 +75,7 @@ fn add_sessions<W: Writable>(tx: &mut W, lab: RowId, sessions: &[Session]) -> Re
         tx.old tx.new result }
 {
     for session in sessions {
-        add_session(tx, lab, session)?;
+        add_session(tx, lab, None, session)?;
     }
     Ok(())
 }
@@ -102,7 +102,7 @@ fn add_records<W: Writable, P: MoveProgress>(
         tx.old tx.new result }
 {
     for place in 0..records.len() {
-        add_record(tx, lab, &records[place])?;
+        add_record(tx, lab, None, &records[place])?;
         progress.tell_records(place + 1, records.len());
     }
     Ok(())
@@ -113,7 +113,7 @@ fn add_trail<W: Writable>(tx: &mut W, lab: RowId, trail: &[TrailRow]) -> Result<
     ensures { MakesInTurn W.lender W.state lab.id (map TrailAdded trail.now) tx.old tx.new result }
 {
     for told in trail {
-        add_told(tx, lab, told)?;
+        add_told(tx, lab, None, None, told)?;
     }
     Ok(())
 }

@@ -7,8 +7,10 @@ ghost use Rattle.lab_records_kept.specs.Bound.{IsBound};
 ghost use Rattle.lab_records_kept.specs.Dual.{IsDual};
 ghost use Rattle.lab_records_kept.specs.Limits.{IsWithin};
 ghost use Rattle.lab_store_tables.specs.Ready.{IsAtRest, IsMadeBy};
-ghost use Rattle.lab_store_write.specs.Calls.{Steps, WritesUnless};
+ghost use Rattle.lab_store_read.specs.Cells.{storage};
+ghost use Rattle.lab_store_write.specs.Calls.{FailsFor, Steps, WritesUnless};
 ghost use Rattle.lab_store_write.specs.Causes.{IsTooGreat};
+ghost use Rattle.lab_store_write.specs.Transactions.{EndsForCause, TransactionEndsForCause};
 ghost use Rattle.lab_move_files.specs.Commits.{MakesAtOnce};
 ghost use Rattle.lab_move_laws.specs.Placings.{PlacesByRules};
 ghost use Rattle.lab_move_write.specs.Carrying.{Carries};
@@ -50,6 +52,8 @@ fn add_inside<S: Alter, P: MoveProgress>(
         (state S.Store tx.old.conn.now) (state S.Store tx.new.conn.now) }
     ensures survives { Survives
         (state S.Store tx.old.conn.now) (state S.Store tx.new.conn.now) (λ _. ⊥) }
+    ensures failed { FailsFor (λ _. IsTooGreat lab.now.strays) (state S.Store)
+        tx.old.conn.now tx.new.conn.now result }
 {
     let mut inside = Inside { tx };
     let made = add_whole(&mut inside, lab, progress);
@@ -66,6 +70,8 @@ fn commit_whole<S: Alter, P: MoveProgress>(
     requires at_rest { IsAtRest (state S.Store conn.old) }
     ensures ends { MakesAtOnce (IsMadeBy (PlacesByRules lab.now) (state S.Store conn.old)) result
         (state S.Store conn.old) (state S.Store conn.new) }
+    ensures cause { TransactionEndsForCause S.Store (IsTooGreat lab.now.strays)
+        conn.old conn.new result }
 {
     let mut tx = conn.transaction();
     add_inside(&mut tx, lab, progress)?;
@@ -90,6 +96,9 @@ pub fn place_lab<S: Alter, P: MoveProgress>(
     ensures placed { IsWithin lab.now → IsBound lab.now → IsDual lab.now →
         MakesAtOnce (Carries lab.now (state S.Store conn.old).now) result
         (state S.Store conn.old) (state S.Store conn.new) }
+    // The store's refusal has its cause:
+    ensures cause { EndsForCause S.Store (λ fault. fault ≡ storage) (IsTooGreat lab.now.strays)
+        conn.old conn.new result }
 {
     match commit_whole(conn, lab, progress) {
         Ok(()) => Ok(()),

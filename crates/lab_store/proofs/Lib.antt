@@ -1,3 +1,4 @@
+mod Blames
 pub mod StoreWorldWords
 mod After
 mod Applied

@@ -6,13 +6,14 @@ use Rattle.std.specs.Prelude.{◌≡◌, ◌≢◌, ◌⊎◌, ℕ, List, [], No
 use Rattle.sqlite_trees.specs.declared.store.Store.{Ghosts}
 use Rattle.sqlite.specs.declared.error.Error.{Error}
 use Rattle.sqlite.specs.Held.{Held, state}
-use Rattle.sqlite.specs.State.{HasCleanDisk, IsRolledBack}
+use Rattle.sqlite.specs.State.{HasCleanDisk}
 use Rattle.lab_forms_texts.specs.declared.refusals.Fault.{Fault}
 use Rattle.lab_records_keeper.specs.declared.faults.BadStore.{BadStore}
 use Rattle.lab_records_keeper.specs.declared.faults.PlacingFault.{PlacingFault}
 use Rattle.lab_records_keeper.specs.declared.faults.PlacingFault.TheVariants.{Storage}
 use Rattle.lab_records_kept.specs.declared.births.Newborn.{Newborn}
 use Rattle.lab_records_kept.specs.declared.changes.Change.{Change}
+use Rattle.lab_records_kept.specs.declared.needs.Need.{Need}
 use Rattle.lab_store_tables.specs.Rows.{Tables}
 use Rattle.lab_store_tables.specs.Ready.{IsReady, tables_of}
 use Rattle.lab_store_read.specs.Causes.{HasFirst, IsCaused}
@@ -21,22 +22,11 @@ use Rattle.lab_store_read.specs.Faults.{is_out_of_memory}
 use Rattle.lab_store_read_records.specs.Readable.{HasLab}
 use Rattle.lab_store_read_records.specs.Shown.{labs_shown}
 use Rattle.lab_store_load.specs.Counts.{lab_id_of}
-use Rattle.lab_store_write.specs.Causes.{EndsBy}
+use Rattle.lab_store_load.specs.Readable.{HasPart}
+use Rattle.lab_store_read_copies.specs.Causes.{HasRange}
+pub use Rattle.lab_store_write.specs.Transactions.{FailsInside}
 use Rattle.lab_store_write_changes.specs.Causes.{OneIsTooMuch}
 use Rattle.lab_store_write_changes.specs.Newborns.{is_asked}
-
--- a transaction over the rows that were shown ended by its last statement, and not for want of
--- memory; it was then undone
-pub record FailsInside {S : Type 0} (g : Ghosts S) (old new : Held S) : Type 0 where
-  -- the transaction as it began, and as that statement left it
-  pub begun : Held S
-  pub last : Held S
-  pub inside : IsTrue (state g begun).in_transaction
-  pub rows : (state g begun).now ≡ (state g old).now
-  pub error : Error
-  pub told : IsFalse (is_out_of_memory error)
-  pub ends : EndsBy (state g) begun last error
-  pub undone : IsRolledBack (state g last) (state g new)
 
 -- a call that commits tells of the store for no other cause, or for what is refused of the tables,
 -- where what it reads of them is readable
@@ -74,3 +64,31 @@ abbrev pub FoundingHasItsCause : {S T : Type 0} → Ghosts S → Newborn → Hel
 FoundingHasItsCause g newborn old new result =
     CommitHasItsCause g (λ fault. fault ≡ Storage) (λ t. Unit {0})
     (λ t. IsTrue (is_asked newborn)) old new result
+
+-- ---- why a keeper over a connection may refuse, between two of its moments
+
+module _ {S : Type 0} (g : Ghosts S) (old new : Held S) where
+  -- to load a part, where what it reads is readable
+  abbrev pub RefusesLoad : List ℕ → Need → Type 0
+  RefusesLoad code need = IsReady (state g old) → HasCleanDisk (state g new)
+      → HasPart (tables_of (state g old)) code need
+      → IsCaused (state g old) (state g new)
+
+  -- to give the records of a range, where they are readable
+  abbrev pub RefusesRange : List ℕ → ℕ → ℕ → Type 0
+  RefusesRange code from last = IsReady (state g old) → HasCleanDisk (state g new)
+      → HasRange (tables_of (state g old)) code from last
+      → IsCaused (state g old) (state g new)
+
+  -- to make changes, where the laboratory's row is readable
+  abbrev pub RefusesCommit : List ℕ → List Change → Type 0
+  RefusesCommit code changes = IsReady (state g old) → HasCleanDisk (state g new)
+      → HasFirst HasLab (labs_shown (tables_of (state g old)) code)
+      → IsCaused (state g old) (state g new)
+      ⊎ (RefusesChanges code changes (tables_of (state g old)) ⊎ FailsInside g old new)
+
+  -- to found a laboratory
+  abbrev pub RefusesNewborn : Newborn → Type 0
+  RefusesNewborn newborn = IsReady (state g old) → HasCleanDisk (state g new)
+      → IsCaused (state g old) (state g new)
+      ⊎ (IsTrue (is_asked newborn) ⊎ FailsInside g old new)

@@ -15,6 +15,10 @@ use std::io::Write;
 pub struct OneVersionAtATime;
 
 impl<S: Alter> RecordGiver<Store<S>> for OneVersionAtATime {
+    ghost use Rattle.lab_store.specs.Causes.{RefusesRange};
+
+    ghost refuses_records = { RefusesRange S.Store };
+
     fn give_records<W: Write, P: Progress>(
         &self,
         alloc: Global,

@@ -172,6 +172,7 @@ impl<S: Alter> Keeper for Store<S> {
     ghost use Rattle.lab_store_tables.specs.Ready.{tables_of};
     ghost use Rattle.lab_store_tables.specs.Placing.{PlacesLab};
     ghost use Rattle.lab_store_laws.specs.Steps.{AreMadeIfAny};
+    ghost use Rattle.lab_store.specs.Causes.{RefusesCommit, RefusesLoad, RefusesNewborn};
     ghost use Rattle.lab_store.specs.StoreWorlds.{world_of};
     ghost use Rattle.lab_store.specs.StoreLaws.{own_code, own_code_left, made_after_rest};
 
@@ -184,6 +185,12 @@ impl<S: Alter> Keeper for Store<S> {
 
     ghost places = { λ old new lab. PlacesLab lab
         (tables_of (state S.Store old)) (tables_of (state S.Store new)) };
+
+    ghost refuses_load = { RefusesLoad S.Store };
+
+    ghost refuses_changes = { RefusesCommit S.Store };
+
+    ghost refuses_founding = { RefusesNewborn S.Store };
 
     fn load(&mut self, code: &LabCode, need: &Need) -> Result<Option<Slice>, KeeperFault> {
         self.part(code, need)

@@ -1,17 +1,15 @@
 -- Why a call fails: by its last statement, behind the calls before it.
-use Rattle.std.proofs.Common.{◌≡◌, ◌⊎◌, inl, inr, ℕ, ℤ, ◌<◌, Bool, map, true, false, List, [], ◌∷◌, length, slice_get, None, Some, Option, Ok, Err, Result, IfOk, IfErr, IsTrue, IsFalse, refl, sym, ap, subst, ◌∙◌, arith}
-use Rattle.std.specs.Prelude.{Vec, IsErrAnd, IfSome}
-use Rattle.std.specs.declared.alloc.Global.{Global}
-use Rattle.sqlite_value.specs.declared.value.Value.{Value}
+use Rattle.std.proofs.Common.{◌≡◌, ◌⊎◌, inl, inr, ℕ, ℤ, ◌<◌, Bool, map, true, false, List, [], ◌∷◌, length, Ok, Err, Result, IfErr, refl, sym, ap, subst, ◌∙◌, arith}
+use Rattle.std.specs.Prelude.{IsErrAnd}
 use Rattle.sqlite_value.specs.declared.value.Value.TheVariants.{Null, Int, Real, Text, Blob}
 use Rattle.sqlite_value.specs.Order.{Row, column}
 use Rattle.sqlite.specs.declared.error.Error.{Error}
-use Rattle.sqlite.specs.declared.error.Error.TheVariants.{SqliteFailure, QueryReturnedNoRows}
+use Rattle.sqlite.specs.declared.error.Error.TheVariants.{SqliteFailure}
 use Rattle.sqlite.specs.declared.error.ErrorCode.TheVariants as code
 use Rattle.sqlite.specs.Values.{IsInt}
-use Rattle.sqlite.specs.State.{State, Survives, ExecutesInside, Shown, FailsToQuery, IsTooLate}
+use Rattle.sqlite.specs.State.{State, Survives, ExecutesInside, FailsToQuery, IsTooLate}
 use Rattle.lab_store_read.specs.Faults.{is_out_of_memory}
-use Rattle.lab_store_write.specs.Causes.{names_one, IsVain, IsUnread, IsUnnamed, IsShown, IsRun, IsRefused, IsNamedInVain, EndsBy, FailsBy}
+use Rattle.lab_store_write.specs.Causes.{IsVain, IsUnread, IsUnnamed, IsOurs, IsRefused, IsNamedInVain, FailsBy}
 use Rattle.lab_store_write.proofs.Inside.{none_then}
 
 pub unmoved : (s : State) → Survives s s (λ _. ⊥)
@@ -34,11 +32,12 @@ module _ {T : Type 0} (state : T → State) where
   pub fails_here : (a b : T) (e : Error) → IsRefused (state a) (state b) e ⊎ IsNamedInVain (state a) (state b) e → FailsBy state a b e
   fails_here a b e why = inr (record { last = a; led = unmoved (state a); why = why })
 
-  pub ran_badly : (sql : List ℕ) (params : Row) (a b : T) (e : Error) → ExecutesInside 0 sql params (state a) (state b) (Err e) → FailsBy state a b e
-  ran_badly sql params a b e ran = fails_here a b e (inl (record { sql = sql; params = params; refused = inl ran }))
+  pub ran_badly : (sql : List ℕ) (params : Row) → IsOurs sql params → (a b : T) (e : Error) → ExecutesInside 0 sql params (state a) (state b) (Err e) → FailsBy state a b e
+  ran_badly sql params ours a b e ran = fails_here a b e (inl (record { sql = sql; params = params; ours = ours; refused = inl ran }))
 
-  pub asked_badly : (sql : List ℕ) (params : Row) (a b : T) (e : Error) → FailsToQuery sql params (state a) (state b) e ⊎ IsTooLate sql params (state a) (state b) e → FailsBy state a b e
-  asked_badly sql params a b e asked = fails_here a b e (inl (record { sql = sql; params = params; refused = inr asked }))
+  pub asked_badly : (sql : List ℕ) (params : Row) → IsOurs sql params → (a b : T) (e : Error) → FailsToQuery sql params (state a) (state b) e ⊎ IsTooLate sql params (state a) (state b) e
+      → FailsBy state a b e
+  asked_badly sql params ours a b e asked = fails_here a b e (inl (record { sql = sql; params = params; ours = ours; refused = inr asked }))
 
   -- behind other calls
   pub fails_behind : (a b c : T) (e : Error) → Survives (state a) (state b) (λ _. ⊥) → FailsBy state b c e → FailsBy state a c e

@@ -1,5 +1,5 @@
 -- What an INSERT of a row makes, for every table.
-use Rattle.std.proofs.Common.{◌≡◌, ℕ, ◌+◌, ◌/◌, List, [], ◌∷◌, length, slice_get, Some, Ok, refl}
+use Rattle.std.proofs.Common.{◌≡◌, ℕ, ◌+◌, ◌/◌, List, [], ◌∷◌, length, slice_get, false, Some, Ok, refl, lit≤}
 use Rattle.sqlite_value.specs.declared.value.Value.TheVariants.{Null}
 use Rattle.sqlite_trees.specs.Tree.{Trees}
 use Rattle.sqlite_sql.specs.Program.{overlay}
@@ -10,7 +10,7 @@ use Rattle.sqlite_keyed.specs.Keyed.{next_key}
 use Rattle.sqlite_keyed.proofs.KeyedLemmas.{IsKeyedBy-insert_by}
 use Rattle.sqlite.specs.Effect.{value_rows}
 use Rattle.sqlite.specs.Rows.{stamped}
-use Rattle.sqlite.specs.Listing.{understood}
+use Rattle.sqlite.specs.Listing.{understood, reads_listing}
 use Rattle.sqlite.specs.State.{State, Executes}
 use Rattle.sqlite.proofs.Callers.{IsPlain, command_of}
 use Rattle.lab_store_tables.specs.Schema.{lab_schema}
@@ -19,9 +19,11 @@ use Rattle.lab_store_tables.specs.Family.{Name, Desk, RowOf, kept, id_of, rows, 
 use Rattle.lab_store_tables.proofs.FamilyWords.{table_in, values_of, stored_row, put}
 use Rattle.lab_store_tables.specs.Held.{IsTyped}
 use Rattle.lab_store_laws.proofs.Tables.{stored_with, rising_with, held_if_stored}
+use Rattle.lab_store_write.specs.Causes.{IsOurs}
 use Rattle.lab_store_write.proofs.Columns.{cast_new}
 use Rattle.lab_store_write.proofs.Writes.{add_next, next_id, uncounted}
 use Rattle.lab_store_write.proofs.Inside.{Wrote}
+use Rattle.lab_store_write.proofs.Ours.{IsOnRows, ours}
 
 -- the place of the table in the schema, and how many values a row has
 abbrev pub place : Name → ℕ
@@ -78,6 +80,20 @@ adds k one old new count typed next did =
           (rising_with k t _ typed.rising (IsKeyedBy-insert_by (id_of k) (rows k t) one (typed.rising.at k)));
       sound = it.sound;
     }
+
+-- it is a statement of ours
+asks : (k : Name) (one : RowOf k) → IsOnRows (text_of k) (length (values_of k one)) (understood lab_schema (text_of k))
+unfolding understood everything
+asks Desk one = (lit≤ tt, refl, refl, refl)
+asks _ one = (lit≤ tt, refl, refl, refl)
+
+unlisted : (k : Name) → reads_listing lab_schema (text_of k) ≡ false
+unfolding understood everything
+unlisted Desk = refl
+unlisted _ = refl
+
+pub adds_ours : (k : Name) (one : RowOf k) → IsOurs (text_of k) (values_of k one)
+adds_ours k one = ours (text_of k) (values_of k one) (asks k one) (unlisted k)
 
 -- the id that the connection returns then
 pub ids : (k : Name) (one : RowOf k) (old new : State) (count : ℕ) → IsTyped old.now → Executes (text_of k) (values_of k one) old new (Ok count)

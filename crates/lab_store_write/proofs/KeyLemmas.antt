@@ -1,5 +1,5 @@
 -- Persons who are named by their keys: what a look-up means, and whom it finds.
-use Rattle.std.proofs.Common.{◌≡◌, ℕ, ℤ, ◌&&◌, List, [], ◌∷◌, codes, slice_get, Option, Some, None, option_map, IsTrue, refl, sym, ap, ap₂, subst, ◌∙◌}
+use Rattle.std.proofs.Common.{◌≡◌, ℕ, ℤ, ◌&&◌, List, [], ◌∷◌, codes, slice_get, Option, Some, None, option_map, IsTrue, refl, sym, ap, ap₂, subst, ◌∙◌, lit≤}
 use Rattle.sqlite_value.specs.declared.value.Value.TheVariants.{Int, Text}
 use Rattle.sqlite_value.specs.Order.{Row}
 use Rattle.sqlite_sql.specs.Program.{overlay}
@@ -7,7 +7,7 @@ use Rattle.sqlite_sql.specs.Term.{Term, col}
 use Rattle.sqlite_tied.specs.Compute.{everything}
 use Rattle.sqlite.specs.Listing.{understood}
 use Rattle.sqlite.specs.State.{State, Shown}
-use Rattle.lab_store_tables.specs.Rows.{PersonRow, tables_in, person_id}
+use Rattle.lab_store_tables.specs.Rows.{PersonRow, Tables, tables_in, person_id}
 use Rattle.lab_store_tables.proofs.RowWords.{person_row}
 use Rattle.lab_store_tables.specs.Changes.{is_person, person_named, IsNamedIfAny}
 use Rattle.lab_store_tables.specs.Held.{IsTyped}
@@ -15,9 +15,11 @@ use Rattle.lab_store_tables.specs.Family.{Persons}
 use Rattle.lab_store_read.proofs.Texts.{Means, is_param}
 use Rattle.lab_store_read.proofs.Sorted.{and_true}
 use Rattle.lab_store_write.specs.Calls.{Steps, Finds}
+use Rattle.lab_store_write.specs.Causes.{IsOurs}
 use Rattle.lab_store_write.specs.Ids.{id_read}
 use Rattle.lab_store_write.specs.Shown.{persons_shown}
 use Rattle.lab_store_write.proofs.Inside.{steps_weaker, steps_none}
+use Rattle.lab_store_write.proofs.Ours.{ours}
 use Rattle.lab_store_write.proofs.Lookups.{by_key_query, rows_by_key, first_key}
 use Rattle.lab_store_tables.proofs.Comparing.{equal_ints, equal_texts}
 
@@ -32,6 +34,10 @@ person_tests = is_param 2 0 ∷ is_param 3 1 ∷ []
 pub person_means : Means person_text (by_key_query 3 person_tests (col 1 0 ∷ [])) (codes "id" ∷ [])
 unfolding understood everything
 person_means = record { read = (_, refl); command = refl; unlisted = refl; plain = (refl, refl) }
+
+pub person_ours : (lab : ℤ) (code : List ℕ) → IsOurs person_text (Int lab ∷ Text code ∷ [])
+unfolding understood everything
+person_ours lab code = ours _ _ (lit≤ tt, refl, refl, refl) person_means.unlisted
 
 pub persons_read : (old new : State) (lab : ℤ) (code : List ℕ) (rows : List Row) → IsTyped old.now → Shown person_text (Int lab ∷ Text code ∷ []) old new rows → rows ≡ persons_shown lab code (tables_in old.now.trees)
 persons_read old new lab code rows typed h =
@@ -52,12 +58,15 @@ person_found lab code text shown rows id old new same slice it first =
     it
 
 -- who is named, where somebody is
-pub named_some : (lab : ℤ) (code : List ℕ) (given : Option (List ℕ)) (id : ℤ) (old new : State) → given ≡ Some code → Steps (Finds (λ t. person_named t lab code ≡ Some id)) old new
-    → Steps (Finds (λ t. IsNamedIfAny t lab given (Some id))) old new
-named_some lab code given id old new is it =
-    subst (λ (o : Option (List ℕ)). Steps (Finds (λ t. IsNamedIfAny t lab o (Some id))) old new) (sym is)
-    (steps_weaker (Finds (λ t. person_named t lab code ≡ Some id)) (Finds (λ t. IsNamedIfAny t lab (Some code) (Some id))) old new (λ before after found. ((id, found.0, refl), found.1)) it)
+pub named_some : (lab : ℤ) (K : Tables → Type 0) (code : List ℕ) (given : Option (List ℕ)) (id : ℤ) (old new : State) → given ≡ Some code
+    → Steps (Finds (λ t. K t → person_named t lab code ≡ Some id)) old new → Steps (Finds (λ t. K t → IsNamedIfAny t lab given (Some id))) old new
+named_some lab K code given id old new is it =
+    subst (λ (o : Option (List ℕ)). Steps (Finds (λ t. K t → IsNamedIfAny t lab o (Some id))) old new) (sym is)
+    (steps_weaker (Finds (λ t. K t → person_named t lab code ≡ Some id)) (Finds (λ t. K t → IsNamedIfAny t lab (Some code) (Some id))) old new
+    (λ before after found. (λ known. (id, found.0 known, refl), found.1)) it)
 
-pub named_none : (lab : ℤ) (given : Option (List ℕ)) (s : State) → given ≡ None → IsTrue s.in_transaction → Steps (Finds (λ t. IsNamedIfAny t lab given None)) s s
-named_none lab given s is inside =
-    subst (λ (o : Option (List ℕ)). Steps (Finds (λ t. IsNamedIfAny t lab o None)) s s) (sym is) (steps_none (λ t. IsNamedIfAny t lab None None) s inside (λ t. refl))
+pub named_none : (lab : ℤ) (K : Tables → Type 0) (given : Option (List ℕ)) (s : State) → given ≡ None → IsTrue s.in_transaction
+    → Steps (Finds (λ t. K t → IsNamedIfAny t lab given None)) s s
+named_none lab K given s is inside =
+    subst (λ (o : Option (List ℕ)). Steps (Finds (λ t. K t → IsNamedIfAny t lab o None)) s s) (sym is)
+    (steps_none (λ t. K t → IsNamedIfAny t lab None None) s inside (λ t known. refl))

@@ -14,8 +14,8 @@ use Rattle.lab_store_tables.specs.Held.{IsTyped}
 use Rattle.lab_store_tables.specs.Ready.{tables_of}
 use Rattle.lab_store_read.proofs.Queries.{IsRead, if_then}
 use Rattle.lab_store_write.specs.Calls.{Steps, Stays, AnswersUnless, AnswersCall, Writes, Becomes, Finds, MadeFrom, CountsBelow}
-use Rattle.lab_store_write.specs.Causes.{IsVain, IsShown, IsRun, FailsBy}
-use Rattle.lab_store_write.proofs.Failing.{unmoved, passed, fails_here, ran_badly, asked_badly, fails_behind}
+use Rattle.lab_store_write.specs.Causes.{IsVain, IsOurs, IsShown, IsRun, FailsBy}
+use Rattle.lab_store_write.proofs.Failing.{unmoved, fails_here, ran_badly, asked_badly, fails_behind}
 use Rattle.lab_store_write.proofs.Inside.{Wrote, made_as, steps_weaker, found_then, known_then, keeps_then, none_then, turns_none, turns_more}
 use Rattle.lab_store_write.proofs.Lookups.{looked, looked_keeps}
 
@@ -23,11 +23,11 @@ module _ {T : Type 0} {lender : T → ℕ × ℕ} {state : T → State} {Beside 
   -- ---- a statement
 
   -- that makes a step, by the number of rows that it returns; its parameters are given in other words
-  pub wrote_as : (sql : List ℕ) (params : Row) (step : ℕ → Tables → Tables → Type 0) {given : Row} {r : Result ℕ Error} → Stays lender state old new → given ≡ params
+  pub wrote_as : (sql : List ℕ) (params : Row) → IsOurs sql params → (step : ℕ → Tables → Tables → Type 0) {given : Row} {r : Result ℕ Error} → Stays lender state old new → given ≡ params
       → (IsTrue (state old).in_transaction → HasCleanDisk (state new) → ExecutesInside 0 sql given (state old) (state new) r)
       → ((count : ℕ) → IsTyped (state old).now → Executes sql params (state old) (state new) (Ok count) → (t : Tables) × Wrote t (state new).now × step count (tables_of (state old)) t)
       → AnswersUnless Beside lender state step old new r
-  wrote_as sql params step {given} {r} stays same ran makes = record {
+  wrote_as sql params ours step {given} {r} stays same ran makes = record {
     stays = stays;
     made = λ inside clean. made_as sql params (state old) (state new) step r
         (subst (λ (row : Row). ExecutesInside 0 sql row (state old) (state new) r) same (ran inside clean)) makes;
@@ -36,26 +36,26 @@ module _ {T : Type 0} {lender : T → ℕ × ℕ} {state : T → State} {Beside 
     where
       badly : (r : Result ℕ Error) → ExecutesInside 0 sql given (state old) (state new) r → IfErr r (λ e. Beside e ⊎ FailsBy state old new e)
       badly (Ok count) did = tt
-      badly (Err e) did = inr (ran_badly state sql given old new e did)
+      badly (Err e) did = inr (ran_badly state sql given (subst (IsOurs sql) (sym same) ours) old new e did)
 
   -- that makes these tables
-  pub wrote : (sql : List ℕ) (params : Row) (made : Tables → Tables) {given : Row} {r : Result ℕ Error} → Stays lender state old new → given ≡ params
+  pub wrote : (sql : List ℕ) (params : Row) → IsOurs sql params → (made : Tables → Tables) {given : Row} {r : Result ℕ Error} → Stays lender state old new → given ≡ params
       → (IsTrue (state old).in_transaction → HasCleanDisk (state new) → ExecutesInside 0 sql given (state old) (state new) r)
       → ((count : ℕ) → IsTyped (state old).now → Executes sql params (state old) (state new) (Ok count) → Wrote (made (tables_of (state old))) (state new).now)
       → AnswersUnless Beside lender state (λ _. Becomes made) old new r
-  wrote sql params made stays same ran makes =
-      wrote_as sql params (λ _. Becomes made) stays same ran (λ count typed did. (made (tables_of (state old)), makes count typed did, refl))
+  wrote sql params ours made stays same ran makes =
+      wrote_as sql params ours (λ _. Becomes made) stays same ran (λ count typed did. (made (tables_of (state old)), makes count typed did, refl))
 
   -- ---- a look-up
 
   -- whose rows are those that the tables show
-  pub rows_found : (sql : List ℕ) → IsRead (first sql) → (params : Row) (answer : Tables → List Row) {given : Row} {r : Result (Vec Row Global) Error} → given ≡ params
+  pub rows_found : (sql : List ℕ) → IsRead (first sql) → (params : Row) → IsOurs sql params → (answer : Tables → List Row) {given : Row} {r : Result (Vec Row Global) Error} → given ≡ params
       → lender new ≡ lender old → Survives (state old) (state new) (λ _. ⊥)
       → (HasCleanDisk (state new) → IfOk r (λ rows. Shown sql given (state old) (state new) rows.items))
       → (HasCleanDisk (state new) → IfErr r (λ e. FailsToQuery sql given (state old) (state new) e ⊎ IsTooLate sql given (state old) (state new) e))
       → ((rows : List Row) → IsTyped (state old).now → Shown sql params (state old) (state new) rows → rows ≡ answer (tables_of (state old)))
       → AnswersUnless Beside lender state (λ (rows : Vec Row Global). Finds (λ t. rows.items ≡ answer t)) old new r
-  rows_found sql read params answer {given} {r} is same survives ok err exact =
+  rows_found sql read params ours answer {given} {r} is same survives ok err exact =
       let before : HasCleanDisk (state new) → HasCleanDisk (state old) = λ clean. omega (arith, survives.clean) in
       record {
         stays = record {
@@ -71,15 +71,15 @@ module _ {T : Type 0} {lender : T → ℕ × ℕ} {state : T → State} {Beside 
       badly : (r : Result (Vec Row Global) Error) → IfErr r (λ e. FailsToQuery sql given (state old) (state new) e ⊎ IsTooLate sql given (state old) (state new) e)
           → IfErr r (λ e. Beside e ⊎ FailsBy state old new e)
       badly (Ok rows) err = tt
-      badly (Err e) err = inr (asked_badly state sql given old new e err)
+      badly (Err e) err = inr (asked_badly state sql given (subst (IsOurs sql) (sym is) ours) old new e err)
 
   -- one more than the rows that the tables show
-  pub place_found : {sql : List ℕ} {parent : ℤ} → IsRead (first sql) → (answer : Tables → List Row) (count : Tables → ℕ) {r : Result ℕ Error}
+  pub place_found : {sql : List ℕ} {parent : ℤ} → IsRead (first sql) → IsOurs sql (Int parent ∷ []) → (answer : Tables → List Row) (count : Tables → ℕ) {r : Result ℕ Error}
       → CountsBelow lender state sql parent old new r
       → ((rows : List Row) → IsTyped (state old).now → Shown sql (Int parent ∷ []) (state old) (state new) rows → rows ≡ answer (tables_of (state old)))
       → ((t : Tables) → length (answer t) ≡ count t)
       → AnswersUnless Beside lender state (λ (place : ℕ). Finds (λ t. place ≡ count t + 1)) old new r
-  place_found {sql} {parent} read answer count {r} it exact counts = record {
+  place_found {sql} {parent} read ours answer count {r} it exact counts = record {
     stays = record { same_lender = it.same_lender; survives = it.survives; kept = λ inside clean. keeps r (it.ok clean) (it.err clean) };
     made = λ inside clean. makes inside r (it.ok clean);
     failed = λ inside clean typed. badly r (it.err clean);
@@ -91,7 +91,7 @@ module _ {T : Type 0} {lender : T → ℕ × ℕ} {state : T → State} {Beside 
       badly : (r : Result ℕ Error) → IfErr r (λ e. FailsToQuery sql (Int parent ∷ []) (state old) (state new) e ⊎ IsTooLate sql (Int parent ∷ []) (state old) (state new) e)
           → IfErr r (λ e. Beside e ⊎ FailsBy state old new e)
       badly (Ok place) err = tt
-      badly (Err e) err = inr (asked_badly state sql (Int parent ∷ []) old new e err)
+      badly (Err e) err = inr (asked_badly state sql (Int parent ∷ []) ours old new e err)
 
       keeps : (r : Result ℕ Error) → IfOk r (λ place. (rows : Vec Row Global) × Shown sql (Int parent ∷ []) (state old) (state new) rows.items × (place ≡ length rows.items + 1))
           → IfErr r (λ e. FailsToQuery sql (Int parent ∷ []) (state old) (state new) e ⊎ IsTooLate sql (Int parent ∷ []) (state old) (state new) e)
@@ -116,24 +116,25 @@ module _ {T : Type 0} {lender : T → ℕ × ℕ} {state : T → State} {Beside 
   answers_as {r = r} it f = record { stays = it.stays; made = λ inside clean. if_then r f (it.made inside clean); failed = it.failed }
 
 -- the rows of a look-up, as it shows them
-pub shown_rows : (old new : State) (sql : List ℕ) (params : Row) (r : Result (Vec Row Global) Error) → (HasCleanDisk new → IfOk r (λ rows. Shown sql params old new rows.items))
+pub shown_rows : (old new : State) (sql : List ℕ) (params : Row) {given : Row} → IsOurs sql params → given ≡ params → (r : Result (Vec Row Global) Error) → (HasCleanDisk new → IfOk r (λ rows. Shown sql given old new rows.items))
     → HasCleanDisk new → IfOk r (λ rows. IsShown old new rows.items)
-shown_rows old new sql params r ok clean = if_then r (λ rows shown. record { sql = sql; params = params; shown = shown }) (ok clean)
+shown_rows old new sql params {given} ours same r ok clean =
+    if_then r (λ rows shown. record { sql = sql; params = given; ours = subst (IsOurs sql) (sym same) ours; shown = shown }) (ok clean)
 
 -- how many rows a statement has written
-pub ran_so : (old new : State) (sql : List ℕ) (params : Row) (r : Result ℕ Error) → ExecutesInside 0 sql params old new r → IfOk r (IsRun old new)
-ran_so old new sql params (Ok count) ran = record { sql = sql; params = params; ran = ran }
-ran_so old new sql params (Err e) ran = tt
+pub ran_so : (old new : State) (sql : List ℕ) (params : Row) {given : Row} → IsOurs sql params → given ≡ params → (r : Result ℕ Error) → ExecutesInside 0 sql given old new r → IfOk r (IsRun old new)
+ran_so old new sql params {given} ours same (Ok count) ran = record { sql = sql; params = given; ours = subst (IsOurs sql) (sym same) ours; ran = ran }
+ran_so old new sql params ours same (Err e) ran = tt
 
 -- a statement that was refused, and that is passed on
-pub run_fails : {T A : Type 0} {lender : T → ℕ × ℕ} {state : T → State} {Beside : Error → Type 0} {step : A → Tables → Tables → Type 0} {a b : T} {e : Error} (sql : List ℕ) (params : Row)
-    → Stays lender state a b → (IsTrue (state a).in_transaction → HasCleanDisk (state b) → ExecutesInside 0 sql params (state a) (state b) (Err e))
+pub run_fails : {T A : Type 0} {lender : T → ℕ × ℕ} {state : T → State} {Beside : Error → Type 0} {step : A → Tables → Tables → Type 0} {a b : T} {e : Error} (sql : List ℕ) (params : Row) {given : Row}
+    → IsOurs sql params → given ≡ params → Stays lender state a b → (IsTrue (state a).in_transaction → HasCleanDisk (state b) → ExecutesInside 0 sql given (state a) (state b) (Err e))
     → (r : Result A Error) → IsErrAnd r (λ d. d ≡ e) → AnswersUnless Beside lender state step a b r
-run_fails sql params stays ran (Ok x) failed = absurd failed
-run_fails {state = state} {Beside = Beside} {a = a} {b = b} {e = e} sql params stays ran (Err d) failed = record {
+run_fails sql params ours same stays ran (Ok x) failed = absurd failed
+run_fails {state = state} {Beside = Beside} {a = a} {b = b} {e = e} sql params {given} ours same stays ran (Err d) failed = record {
   stays = stays;
   made = λ inside clean. tt;
-  failed = λ inside clean typed. subst (λ (d : Error). Beside d ⊎ FailsBy state a b d) (sym failed) (inr (ran_badly state sql params a b e (ran inside clean)));
+  failed = λ inside clean typed. subst (λ (d : Error). Beside d ⊎ FailsBy state a b d) (sym failed) (inr (ran_badly state sql given (subst (IsOurs sql) (sym same) ours) a b e (ran inside clean)));
 }
 
 -- ---- no call
@@ -258,7 +259,7 @@ module _ {T A : Type 0} {lender : T → ℕ × ℕ} {state : T → State} {Kept 
     }
 
     -- both as one
-    both : AnswersCall lender state (λ (_ : Unit {0}) before after. Unit {0}) a c (Ok tt)
+    pub both : AnswersCall lender state (λ (_ : Unit {0}) before after. Unit {0}) a c (Ok tt)
     both = and_then (λ one two. record { inside = two.inside; made = λ typed. ((two.made (one.made typed).0).0, tt); sound = λ typed rules. two.sound (one.made typed).0 (one.sound typed rules) })
 
     on_both : IsTrue (state a).in_transaction → HasCleanDisk (state c) → Steps (P x) (state a) (state b) × Steps (Q y) (state b) (state c)

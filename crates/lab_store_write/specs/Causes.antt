@@ -1,11 +1,18 @@
 -- Why a call inside a transaction fails: memory ran out, or the transaction refused the last
--- statement of the call, or that statement finds no row of what is named.
-use Rattle.std.specs.Prelude.{◌≡◌, ◌⊎◌, ◌^◌, ◌≤◌, ℕ, Bool, false, List, None, Ok, Err, IsSomeAnd, IsTrue, IsFalse, slice_get}
+-- statement of the call, or that statement finds no row of what is named. The statement is one that
+-- our schema understands, on rows, and gets all its parameters: that a text isn't understood, or
+-- ends or begins a transaction, is no cause.
+use Rattle.std.specs.Prelude.{◌≡◌, ◌⊎◌, ◌^◌, ◌≤◌, ℕ, Bool, true, false, List, [], length, None, Ok, Err, IsSomeAnd, IsTrue, IsFalse, slice_get}
 use Rattle.std.specs.Option.{option_map_or}
 use Rattle.sqlite_value.specs.Order.{Row}
+use Rattle.sqlite_schema.specs.declared.command.Command.{Command}
+use Rattle.sqlite_schema.specs.declared.command.Command.TheVariants.{Select, Insert, Update}
+use Rattle.sqlite_resolve.specs.declared.compiled.Compiled.{Compiled}
+use Rattle.sqlite.specs.Listing.{understood, reads_listing}
 use Rattle.sqlite.specs.declared.error.Error.{Error}
 use Rattle.sqlite.specs.declared.error.Error.TheVariants.{QueryReturnedNoRows}
 use Rattle.sqlite.specs.State.{State, Survives, Shown, ExecutesInside, FailsToQuery, IsTooLate}
+use Rattle.lab_store_tables.specs.Schema.{lab_schema}
 use Rattle.lab_store_read.specs.Cells.{is_id, stands}
 use Rattle.lab_store_read.specs.Faults.{is_out_of_memory}
 
@@ -31,22 +38,44 @@ IsUnnamed rows e =
     ((slice_get rows 0 ≡ None) × (e ≡ QueryReturnedNoRows))
     ⊎ IsSomeAnd (slice_get rows 0) (λ row. IsUnread row e)
 
--- a statement from here to there shows these rows
+-- it adds rows of a table, sets rows of one, or shows rows
+abbrev pub is_of_rows : Command → Bool
+is_of_rows (Insert at from) = true
+is_of_rows (Update at query) = true
+is_of_rows (Select query names) = true
+is_of_rows _ = false
+
+-- the text is one statement on rows, as our schema understands it, with so many parameters
+pub record IsOurs (sql : List ℕ) (params : Row) : Type 0 where
+  pub compiled : Compiled
+  pub is : understood lab_schema sql ≡ Ok compiled
+  pub whole : length sql ≤ compiled.tail
+  pub given : length params ≡ length compiled.names
+  -- no time is asked, which no clock may give
+  pub timeless : compiled.formats ≡ []
+  pub on_rows : IsTrue (is_of_rows compiled.command)
+  -- its tables are those of our schema, and not the list of them
+  pub own : reads_listing lab_schema sql ≡ false
+
+-- a statement of ours from here to there shows these rows
 pub record IsShown (old new : State) (rows : List Row) : Type 0 where
   pub sql : List ℕ
   pub params : Row
+  pub ours : IsOurs sql params
   pub shown : Shown sql params old new rows
 
--- a statement from here to there has written so many rows
+-- a statement of ours from here to there has written so many rows
 pub record IsRun (old new : State) (count : ℕ) : Type 0 where
   pub sql : List ℕ
   pub params : Row
+  pub ours : IsOurs sql params
   pub ran : ExecutesInside 0 sql params old new (Ok count)
 
--- a statement from here to there was refused with the error
+-- a statement of ours from here to there was refused with the error
 pub record IsRefused (old new : State) (e : Error) : Type 0 where
   pub sql : List ℕ
   pub params : Row
+  pub ours : IsOurs sql params
   pub refused : ExecutesInside 0 sql params old new (Err e)
       ⊎ (FailsToQuery sql params old new e ⊎ IsTooLate sql params old new e)
 

@@ -4,7 +4,7 @@ ghost use Rattle.std.specs.Prelude.{◌≡◌, ℕ, Ok, IfOk, IfErr, IsTrue};
 ghost use Rattle.sqlite.specs.State.{HasCleanDisk, ExecutesInside};
 ghost use Rattle.sqlite.specs.Values.{bound};
 ghost use Rattle.lab_store_write.specs.Calls.{Stays};
-ghost use Rattle.lab_store_write.specs.Causes.{FailsBy};
+ghost use Rattle.lab_store_write.specs.Causes.{FailsBy, IsOurs};
 
 use crate::statements::{RowId, run};
 use crate::writable::Writable;
@@ -21,7 +21,8 @@ pub fn insert<W: Writable>(tx: &mut W, text: &str, params: &[ValueRef<'_>]) -> R
         IfOk result (λ one. (count : ℕ) × ExecutesInside 0 text.now (bound params.now)
         (W.state tx.old) (W.state tx.new) (Ok count)
         × (one.id ≡ (W.state tx.new).last_rowid)) }
-    ensures failed { IsTrue (W.state tx.old).in_transaction → HasCleanDisk (W.state tx.new) →
+    ensures failed { IsOurs text.now (bound params.now) →
+        IsTrue (W.state tx.old).in_transaction → HasCleanDisk (W.state tx.new) →
         IfErr result (FailsBy W.state tx.old tx.new) }
 {
     run(tx, text, params)?;

@@ -13,8 +13,8 @@ pub mod values;
 mod writable;
 
 pub use labs::{set_last, set_strays};
-pub use named::{first_id, id_of, person_id_at, person_id_by, person_if_any};
+pub use named::{Giver, first_id, giver_if_any, id_of, person_id_at, person_id_by};
 pub use places::place_below;
 pub use statements::RowId;
-pub use trails::{add_last_told, add_told};
+pub use trails::add_told;
 pub use writable::Writable;

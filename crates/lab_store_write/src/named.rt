@@ -1,10 +1,11 @@
 //! The persons whom codes name, by the keys of the table of persons.
 
-ghost use Rattle.std.specs.Prelude.{◌≡◌, Some, option_map, slice_get, IfOk, IfErr, IfSome};
+ghost use Rattle.std.specs.Prelude.{◌≡◌, Some, option_map, slice_get, IfOk, IfErr, IfSome, IsSomeAnd};
 ghost use Rattle.sqlite.specs.State.{HasCleanDisk};
 ghost use Rattle.lab_store_tables.specs.Changes.{person_named, IsNamedIfAny};
 ghost use Rattle.lab_store_write.specs.Calls.{AnswersCall, Finds};
 ghost use Rattle.lab_store_write.specs.Causes.{IsShown, IsUnread, IsUnnamed};
+ghost use Rattle.lab_store_write.specs.Givers.{Knows};
 ghost use Rattle.lab_store_write.specs.Ids.{row_id, id_read};
 ghost use Rattle.lab_store_write.specs.Shown.{persons_shown};
 
@@ -65,55 +66,87 @@ pub fn person_id_at<W: Writable>(tx: &mut W, lab: RowId, code: &PersonCode) -> R
     first_id(&rows)
 }
 
-// The id of the known person, if that person has the code.
-fn known_id(known: &Option<PersonCode>, person: Option<RowId>, code: &PersonCode) -> Option<RowId>
-    ensures { IfSome result (λ one. (known.now ≡ Some code.now) × (person ≡ Some one)) }
+/// Who gives a command: a person whose code and id are known, and who isn't looked up again.
+#[derive(Clone, Copy)]
+pub struct Giver<'a> {
+    /// The code.
+    pub code: &'a PersonCode,
+    /// The id of the person's row.
+    pub id: RowId,
+}
+
+// The id of who gives the command, if that person is known and has the code.
+fn given_id(giver: Option<Giver<'_>>, code: &PersonCode) -> Option<RowId>
+    ensures { IfSome result (λ id.
+        IsSomeAnd giver.entry (λ one. (one.code.now ≡ code.now) × (one.id ≡ id))) }
 {
-    match known {
-        Some(known) if *known == *code => person,
+    match giver {
+        Some(giver) if *giver.code == *code => Some(giver.id),
         _ => None,
     }
 }
 
-/// Returns the id of the person with the code, in the laboratory. A person whose id is known isn't
-/// looked up again.
+/// Returns the id of the person with the code, in the laboratory. Who gives the command isn't
+/// looked up again, if that is known.
 ///
 /// # Errors
-/// The errors of `person_id_at`.
+/// The errors of `Writable`, or nobody has the code.
 pub fn person_id_by<W: Writable>(
     tx: &mut W,
     lab: RowId,
-    known: &Option<PersonCode>,
-    person: Option<RowId>,
+    giver: Option<Giver<'_>>,
     code: &PersonCode,
 ) -> Result<RowId, Error>
     ensures { AnswersCall W.lender W.state (λ one. Finds (λ t.
-        IsNamedIfAny t lab.id known.now (option_map row_id person) →
-        person_named t lab.id code.now ≡ Some one.id)) tx.old tx.new result }
+        Knows lab.id giver.entry t → person_named t lab.id code.now ≡ Some one.id))
+        tx.old tx.new result }
 {
-    match known_id(known, person, code) {
+    match given_id(giver, code) {
         Some(id) => Ok(id),
         None => person_id_at(tx, lab, code),
     }
 }
 
-/// Returns the id of the person with the code, in the laboratory, if a code is given.
+/// Returns the id of the person with the code, in the laboratory, if a code is given. Who gives the
+/// command isn't looked up again, if that is known.
 ///
 /// # Errors
-/// The store failed, or memory ran out.
-pub fn person_if_any<W: Writable>(
+/// The errors of `Writable`, or nobody has the code.
+pub(crate) fn person_if_any<W: Writable>(
     tx: &mut W,
     lab: RowId,
+    giver: Option<Giver<'_>>,
     code: &Option<PersonCode>,
 ) -> Result<Option<RowId>, Error>
-    ensures { AnswersCall W.lender W.state
-        (λ one. Finds (λ t. IsNamedIfAny t lab.id code.now (option_map row_id one)))
+    ensures { AnswersCall W.lender W.state (λ one. Finds (λ t.
+        Knows lab.id giver.entry t → IsNamedIfAny t lab.id code.now (option_map row_id one)))
         tx.old tx.new result }
 {
     match code {
         Some(code) => {
-            let person = person_id_at(tx, lab, code)?;
+            let person = person_id_by(tx, lab, giver, code)?;
             Ok(Some(person))
+        }
+        None => Ok(None),
+    }
+}
+
+/// Returns who gives a command, by the code, if one is given: that person is looked up once.
+///
+/// # Errors
+/// The errors of `Writable`, or nobody has the code.
+pub fn giver_if_any<'a, W: Writable>(
+    tx: &mut W,
+    lab: RowId,
+    code: &'a Option<PersonCode>,
+) -> Result<Option<Giver<'a>>, Error>
+    ensures { AnswersCall W.lender W.state (λ giver. Finds (Knows lab.id giver))
+        tx.old tx.new result }
+{
+    match code {
+        Some(code) => {
+            let id = person_id_at(tx, lab, code)?;
+            Ok(Some(Giver { code, id }))
         }
         None => Ok(None),
     }

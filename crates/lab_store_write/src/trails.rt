@@ -1,13 +1,12 @@
 //! Rows of the trail.
 
 ghost use Rattle.std.specs.Prelude.{option_map};
-ghost use Rattle.lab_store_tables.specs.Rows.{LabRow};
-ghost use Rattle.lab_store_tables.specs.Changes.{in_lab, AddsTold, IsNamedIfAny};
 ghost use Rattle.lab_store_write.specs.Calls.{Writes, Becomes, MadeFrom};
+ghost use Rattle.lab_store_write.specs.Givers.{Knows};
 ghost use Rattle.lab_store_write.specs.Ids.{row_id};
-ghost use Rattle.lab_store_write.specs.TrailAdded.{with_told, AddsLastTold};
+ghost use Rattle.lab_store_write.specs.TrailAdded.{with_told, with_count, AddsLastTold};
 
-use crate::named::person_if_any;
+use crate::named::{Giver, person_if_any};
 use crate::statements::{RowId, run};
 use crate::values::{id_or_null, id_value, moment_value, ordinal_value, text_value};
 use crate::writable::Writable;
@@ -41,67 +40,48 @@ fn insert_told<W: Writable>(
     )
 }
 
-// Sets how many rows the trail of the laboratory has.
-fn set_trail<W: Writable>(tx: &mut W, lab: RowId, count: Ordinal) -> Result<usize, Error>
-    ensures { Writes W.lender W.state
-        (Becomes (in_lab lab.id (λ (one : LabRow). record one { trail = count })))
+// Sets how many rows the trail of the laboratory has, and its last moment, if one is given.
+fn set_trail<W: Writable>(
+    tx: &mut W,
+    lab: RowId,
+    last: Option<Moment>,
+    count: Ordinal,
+) -> Result<usize, Error>
+    ensures { Writes W.lender W.state (Becomes (with_count lab.id last count))
         tx.old tx.new result }
 {
-    run(
-        tx,
-        "UPDATE labs SET trail = ?2 WHERE id = ?1",
-        &[id_value(lab), ordinal_value(count)],
-    )
+    match last {
+        Some(moment) => run(
+            tx,
+            "UPDATE labs SET last = ?2, trail = ?3 WHERE id = ?1",
+            &[id_value(lab), moment_value(moment), ordinal_value(count)],
+        ),
+        None => run(
+            tx,
+            "UPDATE labs SET trail = ?2 WHERE id = ?1",
+            &[id_value(lab), ordinal_value(count)],
+        ),
+    }
 }
 
-/// Adds a row of the trail.
+/// Adds a row of the trail, and sets the last moment of the laboratory together with the number of
+/// its rows, if one is given.
 ///
 /// # Errors
 /// The errors of `Writable`, or nobody has the code of the person in the row.
-pub fn add_told<W: Writable>(tx: &mut W, lab: RowId, told: &TrailRow) -> Result<(), Error>
-    ensures { Writes W.lender W.state (AddsTold lab.id told.now) tx.old tx.new result }
-{
-    let person = person_if_any(tx, lab, &told.person)?;
-    insert_told(tx, lab, person, told)?;
-    set_trail(tx, lab, told.number)?;
-    Ok(())
-}
-
-// Sets the last moment of the laboratory, and how many rows its trail has.
-fn set_last_and_trail<W: Writable>(
+pub fn add_told<W: Writable>(
     tx: &mut W,
     lab: RowId,
-    moment: Moment,
-    count: Ordinal,
-) -> Result<usize, Error>
-    ensures { Writes W.lender W.state
-        (Becomes (in_lab lab.id (λ (one : LabRow). record one { last = moment; trail = count })))
-        tx.old tx.new result }
-{
-    run(
-        tx,
-        "UPDATE labs SET last = ?2, trail = ?3 WHERE id = ?1",
-        &[id_value(lab), moment_value(moment), ordinal_value(count)],
-    )
-}
-
-/// Adds a row of the trail, whose person has the id, and sets the last moment of the laboratory
-/// together with the number of its rows.
-///
-/// # Errors
-/// The errors of `Writable`.
-pub fn add_last_told<W: Writable>(
-    tx: &mut W,
-    lab: RowId,
-    moment: Moment,
-    person: Option<RowId>,
+    giver: Option<Giver<'_>>,
+    last: Option<Moment>,
     told: &TrailRow,
 ) -> Result<(), Error>
     ensures { Writes W.lender W.state
-        (MadeFrom (λ t. IsNamedIfAny t lab.id told.now.person (option_map row_id person))
-        (AddsLastTold lab.id moment told.now)) tx.old tx.new result }
+        (MadeFrom (Knows lab.id giver.entry) (AddsLastTold lab.id last told.now))
+        tx.old tx.new result }
 {
+    let person = person_if_any(tx, lab, giver, &told.person)?;
     insert_told(tx, lab, person, told)?;
-    set_last_and_trail(tx, lab, moment, told.number)?;
+    set_trail(tx, lab, last, told.number)?;
     Ok(())
 }

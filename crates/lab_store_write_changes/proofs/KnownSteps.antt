@@ -12,9 +12,9 @@ use Rattle.lab_people_access.specs.declared.persons.Person.{Person}
 use Rattle.lab_records_kept.specs.declared.changes.Change.{Change}
 use Rattle.lab_records_kept.specs.declared.changes.Change.TheVariants.{Last, Strays, PersonAdded, PersonSet, SessionAdded, SessionSet, SessionsClosed, FormAdded, RecordAdded, RowAdded, VersionOpened, SignatureAdded, TrailAdded}
 use Rattle.lab_store_tables.specs.Rows.{PersonRow, Tables, person_id}
-use Rattle.lab_store_tables.specs.Changes.{IsNamedIfAny, is_person, person_named, person_row_of, SetsPerson}
+use Rattle.lab_store_tables.specs.Changes.{is_person, person_named, person_row_of, SetsPerson}
 use Rattle.lab_store_tables.specs.WellKept.{have_own_ids}
-use Rattle.lab_store_tables.specs.Held.{AreRising, IsTyped}
+use Rattle.lab_store_tables.specs.Held.{AreRising}
 use Rattle.lab_store_tables.specs.Ready.{tables_of}
 use Rattle.lab_store_laws.specs.Steps.{AppliesWhereKept, StepsBy}
 use Rattle.lab_store_laws.proofs.Bridges.{apart_from_test}
@@ -22,21 +22,17 @@ use Rattle.lab_store_laws.proofs.Ids.{own_ids}
 use Rattle.lab_store_laws.proofs.KeptByRules.{ids_by_order}
 use Rattle.lab_store_laws.proofs.Named.{the_row}
 use Rattle.lab_store_laws.proofs.OneRow.{kept}
-use Rattle.lab_store_write.specs.declared.statements.RowId.{RowId}
+use Rattle.lab_store_write.specs.declared.named.Giver.{Giver}
 use Rattle.lab_store_write.specs.Calls.{Steps, MadeFrom}
-use Rattle.lab_store_write.specs.Ids.{row_id}
+use Rattle.lab_store_write.specs.Givers.{Knows}
+use Rattle.lab_store_write.proofs.Givers.{known_still}
+use Rattle.lab_store_write_records.proofs.Leaving.{form_leaves, record_leaves, version_leaves}
 use Rattle.lab_store_write.proofs.Inside.{turn_more}
-use Rattle.lab_store_write_changes.specs.Framed.{spares_lab, Knows, StepsKnowing}
+use Rattle.lab_store_write_changes.specs.Framed.{spares_last, keeps_giver, StepsKnowing}
 use Rattle.lab_store_write_changes.proofs.Steps.{rules_of}
 use Rattle.lab_store_tables.proofs.Comparing.{text_is}
 
--- ---- who is named, where persons stay, and where one of them is set
-
-named_by_persons : (old new : Tables) (lab : ℤ) (known : Option (List ℕ)) (person : Option ℤ) → new.persons ≡ old.persons → IsNamedIfAny old lab known person
-    → IsNamedIfAny new lab known person
-named_by_persons old new lab None person same it = it
-named_by_persons old new lab (Some code) person same it =
-    (it.0, ap (λ (persons : List PersonRow). option_map person_id (find (is_person lab code) persons)) same ∙ it.1, it.2)
+-- ---- who is named, where one of the persons is set
 
 find_kept : (p : PersonRow → Bool) (next : PersonRow → PersonRow) (rows : List PersonRow)
     → AllByRecursion (λ one. (p (next one) ≡ p one) × ((next one).id ≡ one.id)) rows
@@ -49,6 +45,9 @@ find_kept p next (one ∷ others) all =
         → option_map person_id (cond b (Some (next one)) (find p (map next others))) ≡ option_map person_id (cond b (Some one) (find p others))
     go true more = ap Some all.0.1
     go false more = more
+
+abbrev persons_of : Tables → List PersonRow
+persons_of t = t.persons
 
 module _ (old new : Tables) (rising : AreRising old) (lab : ℤ) (person : Person) (it : SetsPerson lab person old new) where
   abbrev row : PersonRow
@@ -77,59 +76,61 @@ module _ (old new : Tables) (rising : AreRising old) (lab : ℤ) (person : Perso
         kept person_id old.persons apart found_row.0 found_row.2 row (sym found_row.3) person_id (sym found_row.3) one has,
       )))
 
-  named_after_set : (known : Option (List ℕ)) (id : Option ℤ) → IsNamedIfAny old lab known id → IsNamedIfAny new lab known id
-  named_after_set None id named = named
-  named_after_set (Some code) id named = (named.0, set_names code ∙ named.1, named.2)
-
 -- ---- one change more
 
-module _ (lab : ℤ) (known : Option (List ℕ)) (id : Option RowId) where
-  still_known : (one : Change) (old new : Tables) → AreRising old → spares_lab one ≡ true → AppliesWhereKept lab one old new → Knows lab known id old
-      → Knows lab known id new
-  still_known (Last moment) old new rising spared it named = absurd cc
-  still_known (Strays count) old new rising spared it named = absurd cc
-  still_known (PersonAdded person) old new rising spared it named = absurd cc
-  still_known (PersonSet person) old new rising spared it named = named_after_set old new rising lab person it known (option_map row_id id) named
-  still_known (SessionAdded session) old new rising spared it named = absurd cc
-  still_known (SessionSet session) old new rising spared it named =
-      named_by_persons old new lab known (option_map row_id id) (ap (λ (t : Tables). t.persons) it.made) named
-  still_known (SessionsClosed person closing) old new rising spared it named = absurd cc
-  still_known (FormAdded form) old new rising spared it named = absurd cc
-  still_known (RecordAdded record_kept) old new rising spared it named = absurd cc
-  still_known (RowAdded number row) old new rising spared it named =
-      named_by_persons old new lab known (option_map row_id id) (ap (λ (t : Tables). t.persons) it.added.made) named
-  still_known (VersionOpened number version) old new rising spared it named = absurd cc
-  still_known (SignatureAdded number version signature) old new rising spared it named =
-      named_by_persons old new lab known (option_map row_id id) (ap (λ (t : Tables). t.persons) it.added.made) named
-  still_known (TrailAdded told) old new rising spared it named = absurd cc
+module _ (lab : ℤ) where
+  still_known : (giver : Giver) (one : Change) (old new : Tables) → AreRising old → spares_last one ≡ true → AppliesWhereKept lab one old new
+      → Knows lab (Some giver) old → Knows lab (Some giver) new
+  still_known giver (Last moment) old new rising spared it known = absurd cc
+  still_known giver (Strays count) old new rising spared it known = absurd cc
+  still_known giver (PersonAdded person) old new rising spared it known = absurd cc
+  still_known giver (PersonSet person) old new rising spared it known = set_names old new rising lab person it giver.code.now ∙ known
+  still_known giver (SessionAdded session) old new rising spared it known = known_still lab (Some giver) old new (ap persons_of it.made) known
+  still_known giver (SessionSet session) old new rising spared it known = known_still lab (Some giver) old new (ap persons_of it.made) known
+  still_known giver (SessionsClosed person closing) old new rising spared it known = absurd cc
+  still_known giver (FormAdded form) old new rising spared it known = known_still lab (Some giver) old new (form_leaves lab form old new it) known
+  still_known giver (RecordAdded kept) old new rising spared it known = known_still lab (Some giver) old new (record_leaves lab kept old new it) known
+  still_known giver (RowAdded number row) old new rising spared it known = known_still lab (Some giver) old new (ap persons_of it.added.made) known
+  still_known giver (VersionOpened number version) old new rising spared it known =
+      known_still lab (Some giver) old new (ap persons_of it.current ∙ version_leaves lab it.kept.id version old it.opened it.added) known
+  still_known giver (SignatureAdded number version signature) old new rising spared it known =
+      known_still lab (Some giver) old new (ap persons_of it.added.made) known
+  still_known giver (TrailAdded told) old new rising spared it known = absurd cc
 
-  pub none_known : (s : State) → IsTrue s.in_transaction → Steps (StepsKnowing lab known id []) s s
-  none_known s inside = record { inside = inside; made = λ typed. (typed, λ named. (refl, named)); sound = λ typed rules. rules }
-
-  spared_at : (changes : List Change) (i : ℕ) (d : Change) → i < length changes → list_all spares_lab changes ≡ true → spares_lab (get_or changes i d) ≡ true
-  spared_at changes i d within all = go (spares_lab (get_or changes i d)) refl
+  spared_at : (changes : List Change) (i : ℕ) (d : Change) → i < length changes → list_all spares_last changes ≡ true → spares_last (get_or changes i d) ≡ true
+  spared_at changes i d within all = go (spares_last (get_or changes i d)) refl
     where
-      go : (b : Bool) → spares_lab (get_or changes i d) ≡ b → b ≡ true
+      go : (b : Bool) → spares_last (get_or changes i d) ≡ b → b ≡ true
       go true is = refl
-      go false is = absurd (let none = list_all_at spares_lab changes i d within is in cc)
+      go false is = absurd (let none = list_all_at spares_last changes i d within is in cc)
 
-  pub one_more_known : (changes : List Change) (i : ℕ) (d : Change) → i < length changes → list_all spares_lab changes ≡ true → (a b c : State) → IsTyped a.now
-      → IsDatabase a.now → Steps (StepsKnowing lab known id (take i changes)) a b → Steps (MadeFrom (Knows lab known id) (AppliesWhereKept lab (get_or changes i d))) b c
-      → Steps (StepsKnowing lab known id (take (i + 1) changes)) a c
-  one_more_known changes i d within spared a b c _ rules p q = record {
-    inside = q.inside;
-    made = λ typed.
-        let one = p.made typed in
-        let two = q.made one.0 in
-        let still = rules_of c.now two.0 (q.sound one.0 (p.sound typed rules)) in (
-          two.0,
-          λ named.
-              let so_far = one.1 named in
-              let applies = two.1 so_far.1 in
-              let step : StepsBy lab (get_or changes i d) (tables_of b) (tables_of c) = record { applies = applies; rising = two.0.rising; rules = still } in (
-                turn_more (StepsBy lab) changes i d within (tables_of a) (tables_of b) (tables_of c) so_far.0 step,
-                still_known (get_or changes i d) (tables_of b) (tables_of c) one.0.rising (spared_at changes i d within spared) applies so_far.1,
-              ),
-        );
-    sound = λ typed sound. q.sound (p.made typed).0 (p.sound typed sound);
-  }
+  kept_known : (giver : Option Giver) (changes : List Change) (i : ℕ) (d : Change) → i < length changes → keeps_giver giver changes ≡ true
+      → (old new : Tables) → AreRising old → AppliesWhereKept lab (get_or changes i d) old new → Knows lab giver old → Knows lab giver new
+  kept_known None changes i d within spared old new rising it known = tt
+  kept_known (Some giver) changes i d within spared old new rising it known =
+      still_known giver (get_or changes i d) old new rising (spared_at changes i d within spared) it known
+
+  module _ (giver : Option Giver) where
+    pub none_known : (s : State) → IsTrue s.in_transaction → Steps (StepsKnowing lab giver []) s s
+    none_known s inside = record { inside = inside; made = λ typed. (typed, λ known. (refl, known)); sound = λ typed rules. rules }
+
+    pub one_more_known : (changes : List Change) (i : ℕ) (d : Change) → i < length changes → keeps_giver giver changes ≡ true → (a b c : State)
+        → IsDatabase a.now → Steps (StepsKnowing lab giver (take i changes)) a b → Steps (MadeFrom (Knows lab giver) (AppliesWhereKept lab (get_or changes i d))) b c
+        → Steps (StepsKnowing lab giver (take (i + 1) changes)) a c
+    one_more_known changes i d within spared a b c rules p q = record {
+      inside = q.inside;
+      made = λ typed.
+          let one = p.made typed in
+          let two = q.made one.0 in
+          let still = rules_of c.now two.0 (q.sound one.0 (p.sound typed rules)) in (
+            two.0,
+            λ known.
+                let so_far = one.1 known in
+                let applies = two.1 so_far.1 in
+                let step : StepsBy lab (get_or changes i d) (tables_of b) (tables_of c) = record { applies = applies; rising = two.0.rising; rules = still } in (
+                  turn_more (StepsBy lab) changes i d within (tables_of a) (tables_of b) (tables_of c) so_far.0 step,
+                  kept_known giver changes i d within spared (tables_of b) (tables_of c) one.0.rising applies so_far.1,
+                ),
+          );
+      sound = λ typed sound. q.sound (p.made typed).0 (p.sound typed sound);
+    }

@@ -1,5 +1,5 @@
 -- What the statement that adds a laboratory's row means, and what it makes of the tables.
-use Rattle.std.proofs.Common.{◌≡◌, ℕ, ℤ, pos, List, [], ◌∷◌, codes, Ok, refl, sym, subst, ◌∙◌}
+use Rattle.std.proofs.Common.{◌≡◌, ℕ, ℤ, pos, List, [], ◌∷◌, codes, Ok, refl, sym, subst, ◌∙◌, lit≤}
 use Rattle.sqlite_value.specs.declared.value.Value.TheVariants.{Null, Int, Text}
 use Rattle.sqlite_value.specs.Order.{Row}
 use Rattle.sqlite_schema.specs.declared.command.Command.TheVariants.{Insert}
@@ -24,8 +24,10 @@ use Rattle.lab_store_tables.specs.Ready.{tables_of}
 use Rattle.lab_store_tables.specs.Family.{Labs}
 use Rattle.lab_store_laws.proofs.Tables.{held_if_stored, stored_with, rising_with}
 use Rattle.lab_store_write.specs.Calls.{Steps}
+use Rattle.lab_store_write.specs.Causes.{IsOurs}
 use Rattle.lab_store_write.proofs.Writes.{cast_int, cast_null, add_next, next_id}
 use Rattle.lab_store_write.proofs.Inside.{Wrote}
+use Rattle.lab_store_write.proofs.Ours.{ours}
 use Rattle.lab_store_write_changes.specs.NewbornRows.{AddsLab}
 
 abbrev pub add_lab_text : List ℕ
@@ -45,6 +47,10 @@ add_lab_is = refl
 -- what the statement is given
 abbrev pub lab_given : Lab → Row
 lab_given lab = Text lab.code ∷ Text lab.name ∷ number lab.last ∷ number lab.strays ∷ []
+
+pub add_lab_ours : (lab : Lab) → IsOurs add_lab_text (lab_given lab)
+unfolding understood everything
+add_lab_ours lab = ours _ _ (lit≤ tt, refl, refl, refl) refl
 
 -- the columns of the row but its id
 abbrev lab_tail : Lab → Row

@@ -1,49 +1,50 @@
--- Changes that most requests make: the last moment of the laboratory, some that leave its own row
--- alone, and a row of its trail.
-use Rattle.std.specs.Prelude.{◌≡◌, ℕ, ℤ, Bool, true, false, List, [], ◌∷◌, ◌++◌, Option, option_map, IsTrue}
+-- Changes that most requests make: the last moment of the laboratory, some that say nothing of it
+-- and add no person, and a row of its trail.
+use Rattle.std.specs.Prelude.{◌≡◌, ℕ, ℤ, Bool, true, false, List, [], ◌∷◌, ◌++◌, Option, Some, None, IsTrue}
 use Rattle.std.specs.List.{list_all}
 use Rattle.lab_records_kept.specs.declared.changes.Change.{Change}
 use Rattle.lab_records_kept.specs.declared.changes.Change.TheVariants.{Last, Strays, PersonAdded, PersonSet, SessionAdded, SessionSet, SessionsClosed, FormAdded, RecordAdded, RowAdded, VersionOpened, SignatureAdded, TrailAdded}
 use Rattle.lab_records_kept.specs.declared.trails.TrailRow.{TrailRow as Told}
 use Rattle.lab_store_tables.specs.Rows.{Tables}
-use Rattle.lab_store_tables.specs.Changes.{InTurn, IsNamedIfAny}
+use Rattle.lab_store_tables.specs.Changes.{InTurn}
 use Rattle.lab_store_laws.specs.Steps.{StepsBy}
-use Rattle.lab_store_write.specs.declared.statements.RowId.{RowId}
+use Rattle.lab_store_write.specs.declared.named.Giver.{Giver}
 use Rattle.lab_store_write.specs.Calls.{MadeFrom}
-use Rattle.lab_store_write.specs.Ids.{row_id}
+use Rattle.lab_store_write.specs.Givers.{Knows}
 
--- whether a change adds or sets one row of another table, and nothing else
-abbrev pub spares_lab : Change → Bool
-spares_lab (Last moment) = false
-spares_lab (Strays count) = false
-spares_lab (PersonAdded person) = false
-spares_lab (PersonSet person) = true
-spares_lab (SessionAdded session) = false
-spares_lab (SessionSet session) = true
-spares_lab (SessionsClosed person closing) = false
-spares_lab (FormAdded form) = false
-spares_lab (RecordAdded kept) = false
-spares_lab (RowAdded number row) = true
-spares_lab (VersionOpened number version) = false
-spares_lab (SignatureAdded number version signature) = true
-spares_lab (TrailAdded told) = false
+-- whether a change is one that says nothing of the last moment, and after which who gives the
+-- command is known as before
+abbrev pub spares_last : Change → Bool
+spares_last (Last moment) = false
+spares_last (Strays count) = false
+spares_last (PersonAdded person) = false
+spares_last (PersonSet person) = true
+spares_last (SessionAdded session) = true
+spares_last (SessionSet session) = true
+spares_last (SessionsClosed person closing) = false
+spares_last (FormAdded form) = true
+spares_last (RecordAdded kept) = true
+spares_last (RowAdded number row) = true
+spares_last (VersionOpened number version) = true
+spares_last (SignatureAdded number version signature) = true
+spares_last (TrailAdded told) = false
 
--- who is known by code and id is the one of the laboratory
-abbrev pub Knows : ℤ → Option (List ℕ) → Option RowId → Tables → Type 0
-Knows lab known person t = IsNamedIfAny t lab known (option_map row_id person)
+-- whether who gives the command stays known over the changes, where somebody is
+abbrev pub keeps_giver : Option Giver → List Change → Bool
+keeps_giver None changes = true
+keeps_giver (Some giver) changes = list_all spares_last changes
 
 -- the changes are made, and who is known is so after them
-abbrev pub StepsKnowing : ℤ → Option (List ℕ) → Option RowId → List Change → Tables → Tables
-    → Type 0
-StepsKnowing lab known person changes =
-    MadeFrom (Knows lab known person)
-    (λ old new. InTurn (StepsBy lab) changes old new × Knows lab known person new)
+abbrev pub StepsKnowing : ℤ → Option Giver → List Change → Tables → Tables → Type 0
+StepsKnowing lab giver changes =
+    MadeFrom (Knows lab giver)
+    (λ old new. InTurn (StepsBy lab) changes old new × Knows lab giver new)
 
 abbrev pub framed : ℕ → List Change → Told → List Change
 framed moment between told = Last moment ∷ (between ++ TrailAdded told ∷ [])
 
--- these are all changes, and those between leave the laboratory's own row alone
+-- these are all changes, and those between are such
 pub record IsFramed (moment : ℕ) (between : List Change) (told : Told) (changes : List Change)
     : Type 0 where
   pub whole : changes ≡ framed moment between told
-  pub spared : IsTrue (list_all spares_lab between)
+  pub spared : IsTrue (list_all spares_last between)

@@ -6,18 +6,17 @@ ghost use Rattle.sqlite.specs.Effect.{IsDatabase};
 ghost use Rattle.sqlite.specs.State.{HasCleanDisk};
 ghost use Rattle.lab_records_kept.specs.declared.changes.Change.TheVariants.{Last, Strays, SessionsClosed};
 ghost use Rattle.lab_store_tables.specs.Changes.{AppliesIn, InTurn};
+ghost use Rattle.lab_store_tables.specs.Held.{IsTyped};
 ghost use Rattle.lab_store_laws.specs.Steps.{AppliesWhereKept, StepsBy};
-ghost use Rattle.lab_store_write.specs.Calls.{Stays, Steps, Writes, WritesUnless, FailsFor};
+ghost use Rattle.lab_store_write.specs.Calls.{Stays, Steps, Writes, WritesUnless, FailsFor, MadeFrom};
+ghost use Rattle.lab_store_write.specs.Givers.{Knows};
 ghost use Rattle.lab_store_write_changes.specs.Causes.{IsTooMuch, OneIsTooMuch};
-ghost use Rattle.lab_store_write_changes.specs.Framed.{spares_lab, framed};
+ghost use Rattle.lab_store_write_changes.specs.Framed.{spares_last, keeps_giver, StepsKnowing, framed};
 
 use crate::framed::frame_of;
-use crate::known::each_known;
 use lab_forms_texts::{Moment, PersonCode};
 use lab_records_kept::{Change, Closing, TrailRow};
-use lab_store_write::{
-    RowId, Writable, add_last_told, add_told, person_if_any, set_last, set_strays,
-};
+use lab_store_write::{Giver, RowId, Writable, add_told, giver_if_any, set_last, set_strays};
 use lab_store_write_people::{add_person, add_session, close_sessions, set_person, set_session};
 use lab_store_write_records::{add_form, add_record, enter_row, open_version, sign_version};
 use sqlite::Error;
@@ -43,63 +42,79 @@ fn change_strays<W: Writable>(tx: &mut W, lab: RowId, count: u64) -> Result<(), 
 fn change_sessions<W: Writable>(
     tx: &mut W,
     lab: RowId,
+    giver: Option<Giver<'_>>,
     person: &PersonCode,
     closing: Closing,
 ) -> Result<(), Error>
-    ensures { Writes W.lender W.state (AppliesWhereKept lab.id (SessionsClosed person.now closing))
-        tx.old tx.new result }
+    ensures { Writes W.lender W.state (MadeFrom (Knows lab.id giver.entry)
+        (AppliesWhereKept lab.id (SessionsClosed person.now closing))) tx.old tx.new result }
 {
-    close_sessions(tx, lab, person, closing)
+    close_sessions(tx, lab, giver, person, closing)
 }
 
-/// Makes the change of the laboratory whose row has the id.
-///
-/// # Errors
-/// The store failed, or memory ran out.
-pub(crate) fn change_rows<W: Writable>(tx: &mut W, lab: RowId, change: &Change) -> Result<(), Error>
+// Makes the change of the laboratory whose row has the id.
+fn change_rows<W: Writable>(
+    tx: &mut W,
+    lab: RowId,
+    giver: Option<Giver<'_>>,
+    change: &Change,
+) -> Result<(), Error>
     ensures { WritesUnless (λ _. IsTooMuch change.now) W.lender W.state
-        (AppliesWhereKept lab.id change.now) tx.old tx.new result }
+        (MadeFrom (Knows lab.id giver.entry) (AppliesWhereKept lab.id change.now))
+        tx.old tx.new result }
 {
     match change {
         Change::Last(moment) => change_last(tx, lab, *moment),
         Change::Strays(count) => change_strays(tx, lab, *count),
-        Change::PersonAdded(person) => add_person(tx, lab, person),
-        Change::PersonSet(person) => set_person(tx, lab, person),
-        Change::SessionAdded(session) => add_session(tx, lab, session),
-        Change::SessionSet(session) => set_session(tx, lab, session),
-        Change::SessionsClosed { person, closing } => change_sessions(tx, lab, person, *closing),
+        Change::PersonAdded(person) => add_person(tx, lab, giver, person),
+        Change::PersonSet(person) => set_person(tx, lab, giver, person),
+        Change::SessionAdded(session) => add_session(tx, lab, giver, session),
+        Change::SessionSet(session) => set_session(tx, lab, giver, session),
+        Change::SessionsClosed { person, closing } => {
+            change_sessions(tx, lab, giver, person, *closing)
+        }
         Change::FormAdded(form) => add_form(tx, lab, form),
-        Change::RecordAdded(kept) => add_record(tx, lab, kept),
-        Change::RowAdded { record, row } => enter_row(tx, lab, *record, row),
-        Change::VersionOpened { record, version } => open_version(tx, lab, *record, version),
+        Change::RecordAdded(kept) => add_record(tx, lab, giver, kept),
+        Change::RowAdded { record, row } => enter_row(tx, lab, giver, *record, row),
+        Change::VersionOpened { record, version } => {
+            open_version(tx, lab, giver, *record, version)
+        }
         Change::SignatureAdded {
             record,
             version,
             signature,
-        } => sign_version(tx, lab, *record, *version, signature),
-        Change::TrailAdded(row) => add_told(tx, lab, row),
+        } => sign_version(tx, lab, giver, *record, *version, signature),
+        Change::TrailAdded(row) => add_told(tx, lab, giver, None, row),
     }
 }
 
 // Makes the changes, one after the other.
-fn each_inside<W: Writable>(tx: &mut W, lab: RowId, changes: &[Change]) -> Result<(), Error>
+fn each_inside<W: Writable>(
+    tx: &mut W,
+    lab: RowId,
+    giver: Option<Giver<'_>>,
+    changes: &[Change],
+) -> Result<(), Error>
     ensures stays { Stays W.lender W.state tx.old tx.new }
     ensures inside { IsTrue (W.state tx.old).in_transaction → HasCleanDisk (W.state tx.new) →
         OnOk result (IsTrue (W.state tx.new).in_transaction) }
-    // In a database that keeps its own rules:
-    ensures made { IsTrue (W.state tx.old).in_transaction → HasCleanDisk (W.state tx.new) →
+    // For changes that keep who gives the command known, in a database that keeps its own rules:
+    ensures made { IsTrue (keeps_giver giver.entry changes.now) →
+        IsTrue (W.state tx.old).in_transaction → HasCleanDisk (W.state tx.new) →
         OnOk result (IsDatabase (W.state tx.old).now →
-        Steps (InTurn (StepsBy lab.id) changes.now) (W.state tx.old) (W.state tx.new)) }
+        Steps (StepsKnowing lab.id giver.entry changes.now) (W.state tx.old) (W.state tx.new)) }
+    ensures typed { IsTrue (W.state tx.old).in_transaction → HasCleanDisk (W.state tx.new) →
+        OnOk result (IsTyped (W.state tx.old).now → IsTyped (W.state tx.new).now) }
     ensures failed { FailsFor (λ _. OneIsTooMuch changes.now) W.state tx.old tx.new result }
 {
     for change in changes {
-        change_rows(tx, lab, change)?;
+        change_rows(tx, lab, giver, change)?;
     }
     Ok(())
 }
 
-// Makes the changes that most requests make: the row of the trail also sets the last moment, and
-// its person is looked up once.
+// Makes the changes that most requests make: who gives the command is looked up once, and the row
+// of the trail also sets the last moment.
 fn framed_inside<W: Writable>(
     tx: &mut W,
     lab: RowId,
@@ -110,17 +125,17 @@ fn framed_inside<W: Writable>(
     ensures stays { Stays W.lender W.state tx.old tx.new }
     ensures inside { IsTrue (W.state tx.old).in_transaction → HasCleanDisk (W.state tx.new) →
         OnOk result (IsTrue (W.state tx.new).in_transaction) }
-    // For such changes, in a database that keeps its own rules:
-    ensures made { IsTrue (list_all spares_lab between.now) →
+    // For such changes between, in a database that keeps its own rules:
+    ensures made { IsTrue (list_all spares_last between.now) →
         IsTrue (W.state tx.old).in_transaction → HasCleanDisk (W.state tx.new) →
         OnOk result (IsDatabase (W.state tx.old).now →
         Steps (InTurn (StepsBy lab.id) (framed moment between.now told.now))
         (W.state tx.old) (W.state tx.new)) }
     ensures failed { FailsFor (λ _. OneIsTooMuch between.now) W.state tx.old tx.new result }
 {
-    let person = person_if_any(tx, lab, &told.person)?;
-    each_known(tx, lab, &told.person, person, between)?;
-    add_last_told(tx, lab, moment, person, told)
+    let giver = giver_if_any(tx, lab, &told.person)?;
+    each_inside(tx, lab, giver, between)?;
+    add_told(tx, lab, giver, Some(moment), told)
 }
 
 /// Makes the changes, one after the other.
@@ -139,6 +154,6 @@ pub fn all_inside<W: Writable>(tx: &mut W, lab: RowId, changes: &[Change]) -> Re
 {
     match frame_of(changes) {
         Some(some) => framed_inside(tx, lab, some.moment, some.between, some.told),
-        None => each_inside(tx, lab, changes),
+        None => each_inside(tx, lab, None, changes),
     }
 }

@@ -5,7 +5,6 @@
 
 mod changes;
 mod framed;
-mod known;
 mod newborns;
 mod rows;
 

@@ -51,7 +51,7 @@ fn add_persons<W: Writable>(tx: &mut W, lab: RowId, persons: &[Person]) -> Resul
         tx.old tx.new result }
 {
     for person in persons {
-        add_person(tx, lab, person)?;
+        add_person(tx, lab, None, person)?;
     }
     Ok(())
 }
@@ -61,7 +61,7 @@ fn add_trail<W: Writable>(tx: &mut W, lab: RowId, trail: &[TrailRow]) -> Result<
     ensures { Writes W.lender W.state (InTurn (AddsTold lab.id) trail.now) tx.old tx.new result }
 {
     for told in trail {
-        add_told(tx, lab, told)?;
+        add_told(tx, lab, None, None, told)?;
     }
     Ok(())
 }

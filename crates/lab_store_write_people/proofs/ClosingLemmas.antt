@@ -1,5 +1,5 @@
 -- The sessions that a change of an account closes: which rows the look-ups show, and what closing these in turn makes.
-use Rattle.std.proofs.Common.{◌≡◌, ℕ, ℤ, ◌<ℤ◌, pos, Bool, true, false, not, ◌&&◌, ◌==◌, cond, List, [], ◌∷◌, map, filter, fold, IsTrue, IsFalse, codes, Some, refl, ap, ap₂, subst, ◌∙◌, arith, int_eq, int_cmp, Ordering, Less, Equal, Greater}
+use Rattle.std.proofs.Common.{◌≡◌, ℕ, ℤ, ◌<ℤ◌, pos, Bool, true, false, not, ◌&&◌, ◌==◌, cond, List, [], ◌∷◌, map, filter, fold, IsTrue, IsFalse, codes, Some, refl, ap, ap₂, subst, ◌∙◌, arith, int_eq, int_cmp, Ordering, Less, Equal, Greater, lit≤}
 use Rattle.std.specs.List.{AllByRecursion, list_all}
 use Rattle.std.specs.Ordering.{is_eq, is_ne}
 use Rattle.std.proofs.lemmas.Int.{ints}
@@ -30,12 +30,13 @@ use Rattle.lab_store_tables.specs.Family.{Sessions}
 use Rattle.lab_store_read.proofs.Texts.{Means, is_param}
 use Rattle.lab_store_read.proofs.Sorted.{and_true}
 use Rattle.lab_store_read.proofs.Lists.{int_alike}
-use Rattle.lab_store_write.specs.Calls.{Steps, Finds}
-use Rattle.lab_store_write.specs.Causes.{shows_id}
+use Rattle.lab_store_write.specs.Calls.{Steps, Finds, MadeFrom}
+use Rattle.lab_store_write.specs.Causes.{shows_id, IsOurs}
 use Rattle.lab_store_write.specs.Ids.{id_read}
 use Rattle.lab_store_write_people.specs.Closings.{is_meant, closed_row, ClosesRow, close_of, is_open_of, opened_shown, ClosesOf}
 use Rattle.lab_store_write.proofs.Inside.{steps_then}
 use Rattle.lab_store_write.proofs.Lookups.{by_key_query, rows_by_key}
+use Rattle.lab_store_write.proofs.Ours.{ours}
 use Rattle.lab_store_tables.proofs.Comparing.{truth_is, equal_ints}
 
 -- ---- tests
@@ -69,6 +70,10 @@ pub all_means : Means all_text (by_key_query 5 (is_param 3 0 ∷ open_test ∷ [
 unfolding understood everything
 all_means = record { read = (_, refl); command = refl; unlisted = refl; plain = (refl, refl) }
 
+pub all_ours : (person : ℤ) → IsOurs all_text (Int person ∷ [])
+unfolding understood everything
+all_ours person = ours _ _ (lit≤ tt, refl, refl, refl) all_means.unlisted
+
 pub all_read : (old new : State) (person : ℤ) (rows : List Row) → IsTyped old.now → Shown all_text (Int person ∷ []) old new rows → rows ≡ opened_shown person All (tables_in old.now.trees)
 all_read old new person rows typed h =
     let t = tables_in old.now.trees in
@@ -84,6 +89,10 @@ others_tests = is_param 3 0 ∷ open_test ∷ op2 (Compare Ne Binary) (col 1 4) 
 pub others_means : Means others_text (by_key_query 5 others_tests (col 1 0 ∷ [])) (codes "id" ∷ [])
 unfolding understood everything
 others_means = record { read = (_, refl); command = refl; unlisted = refl; plain = (refl, refl) }
+
+pub others_ours : (person : ℤ) (kept : ℕ) → IsOurs others_text (Int person ∷ number kept ∷ [])
+unfolding understood everything
+others_ours person kept = ours _ _ (lit≤ tt, refl, refl, refl) others_means.unlisted
 
 pub others_read : (old new : State) (person : ℤ) (kept : ℕ) (rows : List Row) → IsTyped old.now → Shown others_text (Int person ∷ number kept ∷ []) old new rows → rows ≡ opened_shown person (Others kept) (tables_in old.now.trees)
 others_read old new person kept rows typed h =
@@ -169,11 +178,12 @@ as_they_are person (x ∷ xs) = ap₂ ◌∷◌ (none_meant (int_eq x.person per
 pub none_closed : (person : ℤ) (t : Tables) → t ≡ close_of person Nothing t
 none_closed person t = ap (λ (l : List SessionRow). record t { sessions = l }) (as_they_are person t.sessions)
 
-pub closes_of : (lab : ℤ) (code : List ℕ) (closing : Closing) (person : ℤ) (a b c : State) → Steps (Finds (λ t. person_named t lab code ≡ Some person)) a b
-    → Steps (λ before after. after ≡ close_of person closing before) b c → Steps (ClosesOf lab code closing) a c
-closes_of lab code closing person a b c =
-    steps_then (Finds (λ t. person_named t lab code ≡ Some person)) (λ before after. after ≡ close_of person closing before) (ClosesOf lab code closing) a b c
-    (λ x y z found made. record { person = person; named = found.0; made = made ∙ ap (close_of person closing) found.1 })
+pub closes_of : (lab : ℤ) (K : Tables → Type 0) (code : List ℕ) (closing : Closing) (person : ℤ) (a b c : State)
+    → Steps (Finds (λ t. K t → person_named t lab code ≡ Some person)) a b
+    → Steps (λ before after. after ≡ close_of person closing before) b c → Steps (MadeFrom K (ClosesOf lab code closing)) a c
+closes_of lab K code closing person a b c =
+    steps_then (Finds (λ t. K t → person_named t lab code ≡ Some person)) (λ before after. after ≡ close_of person closing before) (MadeFrom K (ClosesOf lab code closing)) a b c
+    (λ x y z found made known. record { person = person; named = found.0 known; made = made ∙ ap (close_of person closing) found.1 })
 
 pub nothing_closed : (person : ℤ) (s : State) → IsTrue s.in_transaction → Steps (λ before after. after ≡ close_of person Nothing before) s s
 nothing_closed person s inside = record { inside = inside; made = λ typed. (typed, none_closed person (tables_of s)); sound = λ _ rules. rules }

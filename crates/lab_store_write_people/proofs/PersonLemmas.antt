@@ -1,5 +1,5 @@
 -- The columns of a person's row, and steps of several calls: a person more, a person set.
-use Rattle.std.proofs.Common.{◌≡◌, ℤ, Some, None, Option, option_map, refl, ap, ◌∙◌}
+use Rattle.std.proofs.Common.{◌≡◌, ℤ, Some, None, Option, option_map, refl, ap, subst, ◌∙◌}
 use Rattle.sqlite_keyed.specs.Keyed.{next_key}
 use Rattle.sqlite_keyed.proofs.KeyedLemmas.{next_key_is_free}
 use Rattle.sqlite.specs.State.{State}
@@ -7,7 +7,7 @@ use Rattle.lab_people_access.specs.declared.passwords.Password.{Password}
 use Rattle.lab_people_access.specs.declared.passwords.Password.TheVariants.{Unset, Chosen, OneTime}
 use Rattle.lab_people_access.specs.declared.persons.Person.{Person}
 use Rattle.lab_people_access.specs.declared.persons.Ask.{Ask}
-use Rattle.lab_store_tables.specs.Rows.{person_id}
+use Rattle.lab_store_tables.specs.Rows.{Tables, person_id}
 use Rattle.lab_store_tables.specs.Columns.{roles_sum}
 use Rattle.lab_store_tables.specs.Changes.{person_named, IsNamedIfAny, asker_of, person_row_of, set_person, AddsPerson, SetsPerson}
 use Rattle.lab_store_tables.specs.Ready.{tables_of}
@@ -31,40 +31,43 @@ given_is lab id asker person = go person.password person.ask
     go (OneTime first second confirmed) None = refl
     go (OneTime first second confirmed) (Some ask) = refl
 
-pub person_added : (lab : ℤ) (person : Person) (asker : Option ℤ) (a b c : State) → Steps (Finds (λ t. IsNamedIfAny t lab (asker_of person) asker)) a b
-    → Steps (λ before after. after ≡ with_person lab asker person before) b c → Steps (AddsPerson lab person) a c
-person_added lab person asker a b c p q = record {
+pub person_added : (lab : ℤ) (K : Tables → Type 0) (person : Person) (asker : Option ℤ) (a b c : State) → Steps (Finds (λ t. K t → IsNamedIfAny t lab (asker_of person) asker)) a b
+    → Steps (λ before after. after ≡ with_person lab asker person before) b c → Steps (MadeFrom K (AddsPerson lab person)) a c
+person_added lab K person asker a b c p q = record {
   inside = q.inside;
   made = λ typed.
       let one = p.made typed in
       let two = q.made one.0 in
       let t = tables_of a in
-      let added : AddsPerson lab person (tables_of a) (tables_of c) = record {
+      let added : K t → AddsPerson lab person (tables_of a) (tables_of c) = λ known. record {
         id = next_key person_id t.persons;
         free = next_key_is_free person_id t.persons (typed.rising.at Persons);
         asker = asker;
-        named = one.1.0;
+        named = one.1.0 known;
         made = two.1 ∙ ap (with_person lab asker person) one.1.1;
       } in
       (two.0, added);
   sound = λ typed rules. q.sound (p.made typed).0 (p.sound typed rules);
 }
 
-pub person_set : (lab : ℤ) (person : Person) (id : ℤ) (asker : Option ℤ) (a b c : State) → Steps (Finds (λ t. IsNamedIfAny t lab (asker_of person) asker)) a b
-    → Steps (λ before after. after ≡ set_person (person_row_of lab id asker person) before) b c
-    → Steps (MadeFrom (λ t. person_named t lab person.code ≡ Some id) (SetsPerson lab person)) a c
-person_set lab person id asker a b c p q = record {
-  inside = q.inside;
+pub person_set : (lab : ℤ) (K : Tables → Type 0) (person : Person) (id : ℤ) (asker : Option ℤ) (a b c d : State)
+    → Steps (Finds (λ t. K t → person_named t lab person.code ≡ Some id)) a b
+    → Steps (Finds (λ t. K t → IsNamedIfAny t lab (asker_of person) asker)) b c
+    → Steps (λ before after. after ≡ set_person (person_row_of lab id asker person) before) c d → Steps (MadeFrom K (SetsPerson lab person)) a d
+person_set lab K person id asker a b c d p q r = record {
+  inside = r.inside;
   made = λ typed.
       let one = p.made typed in
       let two = q.made one.0 in
-      let set : person_named (tables_of a) lab person.code ≡ Some id → SetsPerson lab person (tables_of a) (tables_of c) = λ found. record {
+      let three = r.made two.0 in
+      let t = tables_of a in
+      let set : K t → SetsPerson lab person t (tables_of d) = λ known. record {
         id = id;
-        found = found;
+        found = one.1.0 known;
         asker = asker;
-        named = one.1.0;
-        made = two.1 ∙ ap (set_person (person_row_of lab id asker person)) one.1.1;
+        named = subst (λ (t : Tables). K t → IsNamedIfAny t lab (asker_of person) asker) one.1.1 two.1.0 known;
+        made = three.1 ∙ ap (set_person (person_row_of lab id asker person)) (two.1.1 ∙ one.1.1);
       } in
-      (two.0, set);
-  sound = λ typed rules. q.sound (p.made typed).0 (p.sound typed rules);
+      (three.0, set);
+  sound = λ typed rules. let one = p.made typed in r.sound (q.made one.0).0 (q.sound one.0 (p.sound typed rules));
 }

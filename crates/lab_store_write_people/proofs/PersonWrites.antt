@@ -1,5 +1,5 @@
 -- What each statement on persons means, and what it makes of the tables.
-use Rattle.std.proofs.Common.{◌≡◌, ℕ, ℤ, List, ◌∷◌, codes, Ok, refl, ap, subst, int_eq}
+use Rattle.std.proofs.Common.{◌≡◌, ℕ, ℤ, List, ◌∷◌, codes, Ok, refl, ap, subst, lit≤, int_eq}
 use Rattle.sqlite_value.specs.declared.value.Value.TheVariants.{Int}
 use Rattle.sqlite_value.specs.Order.{Row}
 use Rattle.sqlite_tied.specs.Compute.{everything}
@@ -14,10 +14,12 @@ use Rattle.lab_store_tables.specs.Held.{IsTyped}
 use Rattle.lab_store_tables.specs.Sheets.{names}
 use Rattle.lab_store_tables.specs.Family.{Persons, kept}
 use Rattle.lab_store_tables.proofs.FamilyWords.{values_of}
-use Rattle.lab_store_write.proofs.Inserts.{adds}
+use Rattle.lab_store_write.specs.Causes.{IsOurs}
+use Rattle.lab_store_write.proofs.Inserts.{adds, adds_ours}
 use Rattle.lab_store_write.proofs.Updates.{IsUpdate, given, by_id, sets}
 use Rattle.lab_store_write.proofs.Writes.{update_same}
 use Rattle.lab_store_write.proofs.Inside.{Wrote}
+use Rattle.lab_store_write.proofs.Ours.{ours}
 
 -- ---- a row more of persons
 
@@ -32,6 +34,9 @@ pub adds_person : (one : PersonRow) (old new : State) (count : ℕ) → IsTyped 
     → Wrote (put_person one (tables_in old.now.trees)) new.now
 adds_person = adds Persons
 
+pub add_person_ours : (one : PersonRow) → IsOurs add_person_text (person_values one)
+add_person_ours = adds_ours Persons
+
 -- ---- a row of persons set, but its ids
 
 abbrev pub set_person_text : List ℕ
@@ -40,6 +45,10 @@ set_person_text = codes "UPDATE persons SET lab = ?2, code = ?3, name = ?4, role
 set_person_is : IsUpdate Persons by_id (given 1 (names (kept Persons).sheet.columns)) set_person_text
 unfolding understood everything
 set_person_is = ((refl, refl), refl)
+
+pub set_person_ours : (id : ℤ) (row : PersonRow) → IsOurs set_person_text (Int id ∷ person_values row)
+unfolding understood everything
+set_person_ours id row = ours _ _ (lit≤ tt, refl, refl, refl) refl
 
 pub sets_person : (row : PersonRow) (old new : State) (count : ℕ) → IsTyped old.now → Executes set_person_text (Int row.id ∷ person_values row) old new (Ok count)
     → Wrote (set_person row (tables_in old.now.trees)) new.now

@@ -1,5 +1,5 @@
 -- What each statement on sessions means, and what it makes of the tables.
-use Rattle.std.proofs.Common.{◌≡◌, inl, inr, ℕ, ℤ, ◌<ℤ◌, Bool, true, false, not, ◌&&◌, cond, List, [], ◌∷◌, filter, slice_get, codes, option_map, Ok, refl, sym, ap, ap₂, subst, ◌∙◌, arith, int_eq, bytes_eq}
+use Rattle.std.proofs.Common.{◌≡◌, inl, inr, ℕ, ℤ, ◌<ℤ◌, Bool, true, false, not, ◌&&◌, cond, List, [], ◌∷◌, filter, slice_get, codes, option_map, Ok, refl, sym, ap, ap₂, subst, ◌∙◌, arith, lit≤, int_eq, bytes_eq}
 use Rattle.std.proofs.lemmas.Int.{ints}
 use Rattle.std.proofs.lemmas.Bool.{and_parts, and_from, not-true, both_ways}
 use Rattle.sqlite_value.specs.declared.value.Value.TheVariants.{Int, Blob}
@@ -33,9 +33,11 @@ use Rattle.lab_store_laws.proofs.RowSet.{map_alike}
 use Rattle.lab_store_read.proofs.Texts.{is_param}
 use Rattle.lab_store_read.proofs.Sorted.{and_true}
 use Rattle.lab_store_read.proofs.Lists.{int_alike}
-use Rattle.lab_store_write.proofs.Inserts.{adds}
+use Rattle.lab_store_write.specs.Causes.{IsOurs}
+use Rattle.lab_store_write.proofs.Inserts.{adds, adds_ours}
 use Rattle.lab_store_write.proofs.Updates.{IsUpdate, given, sets_where}
 use Rattle.lab_store_write.proofs.Inside.{Wrote}
+use Rattle.lab_store_write.proofs.Ours.{ours}
 use Rattle.lab_store_write_people.specs.Added.{SetsIfAny}
 use Rattle.lab_store_tables.proofs.Comparing.{equal_ints, text_is, text_alike, equal_blobs, ids_differ}
 
@@ -51,6 +53,9 @@ session_values = values_of Sessions
 pub adds_session : (one : SessionRow) (old new : State) (count : ℕ) → IsTyped old.now → one.id ≡ next_key session_id (tables_in old.now.trees).sessions → Executes add_session_text (session_values one) old new (Ok count)
     → Wrote (put_session one (tables_in old.now.trees)) new.now
 adds_session = adds Sessions
+
+pub add_session_ours : (one : SessionRow) → IsOurs add_session_text (session_values one)
+add_session_ours = adds_ours Sessions
 
 -- ---- the row of a token set
 
@@ -70,6 +75,10 @@ set_session_is = ((refl, refl), refl)
 -- the laboratory and the token, and then what is set
 abbrev pub set_session_values : ℤ → ℤ → Session → Row
 set_session_values lab person session = Int lab ∷ Blob session.token ∷ Int person ∷ number session.number ∷ number session.opened ∷ number session.last ∷ flag session.closed ∷ flag session.signed ∷ []
+
+pub set_session_ours : (lab person : ℤ) (session : Session) → IsOurs set_session_text (set_session_values lab person session)
+unfolding understood everything
+set_session_ours lab person session = ours _ _ (lit≤ tt, refl, refl, refl) refl
 
 module _ (lab : ℤ) (token : List ℕ) where
   token_agrees : (a b : SessionRow) → is_session lab token a ≡ true → is_session lab token b ≡ true → agree plain (2 ∷ 5 ∷ []) (session_row a) (2 ∷ 5 ∷ []) (session_row b) ≡ true

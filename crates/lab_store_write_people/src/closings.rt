@@ -5,15 +5,16 @@ ghost use Rattle.std.specs.Prelude.{◌≡◌, IsFalse};
 ghost use Rattle.std.specs.List.{list_all};
 ghost use Rattle.lab_people_access.specs.declared.sessions.Closing.TheVariants.{All, Others};
 ghost use Rattle.lab_store_tables.specs.Changes.{InTurn};
-ghost use Rattle.lab_store_write.specs.Calls.{AnswersCall, Writes, WritesUnless, Becomes, Finds};
+ghost use Rattle.lab_store_write.specs.Calls.{AnswersCall, Writes, WritesUnless, Becomes, Finds, MadeFrom};
 ghost use Rattle.lab_store_write.specs.Causes.{shows_id};
+ghost use Rattle.lab_store_write.specs.Givers.{Knows};
 ghost use Rattle.lab_store_write_people.specs.Closings.{close_one, close_of, ClosesRow, ClosesOf, opened_shown};
 
 use lab_forms_texts::{Ordinal, PersonCode};
 use lab_people_access::Closing;
 use lab_store_write::statements::run;
 use lab_store_write::values::{id_value, ordinal_value};
-use lab_store_write::{RowId, Writable, id_of, person_id_at};
+use lab_store_write::{Giver, RowId, Writable, id_of, person_id_by};
 use sqlite::{Error, Row};
 
 // Closes the session.
@@ -99,12 +100,15 @@ fn close_meant<W: Writable>(tx: &mut W, person: RowId, closing: Closing) -> Resu
 pub fn close_sessions<W: Writable>(
     tx: &mut W,
     lab: RowId,
+    giver: Option<Giver<'_>>,
     code: &PersonCode,
     closing: Closing,
 ) -> Result<(), Error>
-    ensures { Writes W.lender W.state (ClosesOf lab.id code.now closing) tx.old tx.new result }
+    ensures { Writes W.lender W.state
+        (MadeFrom (Knows lab.id giver.entry) (ClosesOf lab.id code.now closing))
+        tx.old tx.new result }
 {
-    let person = person_id_at(tx, lab, code)?;
+    let person = person_id_by(tx, lab, giver, code)?;
     close_meant(tx, person, closing)?;
     Ok(())
 }

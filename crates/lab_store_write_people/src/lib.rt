@@ -8,5 +8,5 @@ mod persons;
 mod sessions;
 
 pub use closings::close_sessions;
-pub use persons::{add_person, set_person, set_person_of};
-pub use sessions::{add_session, set_session, set_session_of};
+pub use persons::{add_person, set_person};
+pub use sessions::{add_session, set_session};

@@ -1,8 +1,9 @@
 //! Persons, with their accounts.
 
-ghost use Rattle.std.specs.Prelude.{◌≡◌, Some, option_map};
-ghost use Rattle.lab_store_tables.specs.Changes.{person_named, IsNamedIfAny, AddsPerson, SetsPerson, person_row_of, set_person as with_row};
+ghost use Rattle.std.specs.Prelude.{option_map};
+ghost use Rattle.lab_store_tables.specs.Changes.{IsNamedIfAny, AddsPerson, SetsPerson, person_row_of, set_person as with_row};
 ghost use Rattle.lab_store_write.specs.Calls.{AnswersCall, Writes, Becomes, Finds, MadeFrom};
+ghost use Rattle.lab_store_write.specs.Givers.{Knows};
 ghost use Rattle.lab_store_write.specs.Ids.{row_id};
 ghost use Rattle.lab_store_write_people.specs.Persons.{asker_in, with_person};
 
@@ -14,22 +15,23 @@ use lab_store_write::statements::run;
 use lab_store_write::values::{
     flag_value, id_or_null, id_value, moment_or_null, small_value, text_value,
 };
-use lab_store_write::{RowId, Writable, person_id_at};
+use lab_store_write::{Giver, RowId, Writable, person_id_by};
 use sqlite::Error;
 
 // The person who asked for a one-time word, if somebody did.
 fn asker_if_any<W: Writable>(
     tx: &mut W,
     lab: RowId,
+    giver: Option<Giver<'_>>,
     ask: &Option<Ask>,
 ) -> Result<Option<RowId>, Error>
-    ensures { AnswersCall W.lender W.state (λ one. Finds (λ t.
+    ensures { AnswersCall W.lender W.state (λ one. Finds (λ t. Knows lab.id giver.entry t →
         IsNamedIfAny t lab.id (option_map asker_in ask.now) (option_map row_id one)))
         tx.old tx.new result }
 {
     match ask {
         Some(ask) => {
-            let asker = person_id_at(tx, lab, &ask.asker)?;
+            let asker = person_id_by(tx, lab, giver, &ask.asker)?;
             Ok(Some(asker))
         }
         None => Ok(None),
@@ -85,10 +87,16 @@ fn insert_person<W: Writable>(
 ///
 /// # Errors
 /// The errors of `Writable`, or nobody has the code of the person who asked for a one-time word.
-pub fn add_person<W: Writable>(tx: &mut W, lab: RowId, person: &Person) -> Result<(), Error>
-    ensures { Writes W.lender W.state (AddsPerson lab.id person.now) tx.old tx.new result }
+pub fn add_person<W: Writable>(
+    tx: &mut W,
+    lab: RowId,
+    giver: Option<Giver<'_>>,
+    person: &Person,
+) -> Result<(), Error>
+    ensures { Writes W.lender W.state
+        (MadeFrom (Knows lab.id giver.entry) (AddsPerson lab.id person.now)) tx.old tx.new result }
 {
-    let asker = asker_if_any(tx, lab, &person.ask)?;
+    let asker = asker_if_any(tx, lab, giver, &person.ask)?;
     insert_person(tx, lab, asker, person)?;
     Ok(())
 }
@@ -141,33 +149,22 @@ fn update_person<W: Writable>(
     )
 }
 
-/// Sets the row of a person, who has the id.
-///
-/// # Errors
-/// The errors of `Writable`, or nobody has the code of the person who asked for a one-time word.
-pub fn set_person_of<W: Writable>(
-    tx: &mut W,
-    lab: RowId,
-    id: RowId,
-    person: &Person,
-) -> Result<(), Error>
-    ensures { Writes W.lender W.state
-        (MadeFrom (λ t. person_named t lab.id person.now.code ≡ Some id.id)
-        (SetsPerson lab.id person.now)) tx.old tx.new result }
-{
-    let asker = asker_if_any(tx, lab, &person.ask)?;
-    update_person(tx, id, lab, asker, person)?;
-    Ok(())
-}
-
 /// Sets the row of a person, whom the code names.
 ///
 /// # Errors
 /// The errors of `Writable`, or nobody has that code, or the code of the person who asked for a
 /// one-time word.
-pub fn set_person<W: Writable>(tx: &mut W, lab: RowId, person: &Person) -> Result<(), Error>
-    ensures { Writes W.lender W.state (SetsPerson lab.id person.now) tx.old tx.new result }
+pub fn set_person<W: Writable>(
+    tx: &mut W,
+    lab: RowId,
+    giver: Option<Giver<'_>>,
+    person: &Person,
+) -> Result<(), Error>
+    ensures { Writes W.lender W.state
+        (MadeFrom (Knows lab.id giver.entry) (SetsPerson lab.id person.now)) tx.old tx.new result }
 {
-    let id = person_id_at(tx, lab, &person.code)?;
-    set_person_of(tx, lab, id, person)
+    let id = person_id_by(tx, lab, giver, &person.code)?;
+    let asker = asker_if_any(tx, lab, giver, &person.ask)?;
+    update_person(tx, id, lab, asker, person)?;
+    Ok(())
 }

@@ -1,18 +1,19 @@
 //! Sessions.
 
-ghost use Rattle.std.specs.Prelude.{◌≡◌, Some, IfOk, IsTrue};
+ghost use Rattle.std.specs.Prelude.{IfOk, IsTrue};
 ghost use Rattle.sqlite.specs.State.{HasCleanDisk};
 ghost use Rattle.lab_store_tables.specs.Rows.{LabRow};
-ghost use Rattle.lab_store_tables.specs.Changes.{in_lab, person_named, AddsSession, SetsSession};
+ghost use Rattle.lab_store_tables.specs.Changes.{in_lab, AddsSession, SetsSession};
 ghost use Rattle.lab_store_write.specs.Calls.{AnswersCall, Writes, Becomes, MadeFrom};
 ghost use Rattle.lab_store_write.specs.Causes.{IsRun};
+ghost use Rattle.lab_store_write.specs.Givers.{Knows};
 ghost use Rattle.lab_store_write_people.specs.Added.{with_session, SetsIfAny};
 
 use lab_forms_texts::Ordinal;
 use lab_people_access::Session;
 use lab_store_write::statements::run;
 use lab_store_write::values::{blob_value, flag_value, id_value, moment_value, ordinal_value};
-use lab_store_write::{RowId, Writable, person_id_at};
+use lab_store_write::{Giver, RowId, Writable, person_id_by};
 use sqlite::Error;
 
 // Adds the row.
@@ -59,10 +60,17 @@ fn set_sessions<W: Writable>(tx: &mut W, lab: RowId, count: Ordinal) -> Result<u
 ///
 /// # Errors
 /// The errors of `Writable`, or nobody has the code of its person.
-pub fn add_session<W: Writable>(tx: &mut W, lab: RowId, session: &Session) -> Result<(), Error>
-    ensures { Writes W.lender W.state (AddsSession lab.id session.now) tx.old tx.new result }
+pub fn add_session<W: Writable>(
+    tx: &mut W,
+    lab: RowId,
+    giver: Option<Giver<'_>>,
+    session: &Session,
+) -> Result<(), Error>
+    ensures { Writes W.lender W.state
+        (MadeFrom (Knows lab.id giver.entry) (AddsSession lab.id session.now))
+        tx.old tx.new result }
 {
-    let person = person_id_at(tx, lab, &session.person)?;
+    let person = person_id_by(tx, lab, giver, &session.person)?;
     insert_session(tx, lab, person, session)?;
     set_sessions(tx, lab, session.number)?;
     Ok(())
@@ -97,34 +105,24 @@ fn update_session<W: Writable>(
     )
 }
 
-/// Sets the row of a session, which its token names, and whose person has the id.
+/// Sets the row of a session, which its token names.
 ///
 /// # Errors
-/// The errors of `Writable`, or no session has the token.
-pub fn set_session_of<W: Writable>(
+/// The errors of `Writable`, or no session has the token, or nobody has the code of its person.
+pub fn set_session<W: Writable>(
     tx: &mut W,
     lab: RowId,
-    person: RowId,
+    giver: Option<Giver<'_>>,
     session: &Session,
 ) -> Result<(), Error>
     ensures { Writes W.lender W.state
-        (MadeFrom (λ t. person_named t lab.id session.now.person ≡ Some person.id)
-        (SetsSession lab.id session.now)) tx.old tx.new result }
+        (MadeFrom (Knows lab.id giver.entry) (SetsSession lab.id session.now))
+        tx.old tx.new result }
 {
+    let person = person_id_by(tx, lab, giver, &session.person)?;
     let count = update_session(tx, lab, person, session)?;
     if count == 0 {
         return Err(Error::QueryReturnedNoRows);
     }
     Ok(())
-}
-
-/// Sets the row of a session, which its token names.
-///
-/// # Errors
-/// The errors of `Writable`, or no session has the token, or nobody has the code of its person.
-pub fn set_session<W: Writable>(tx: &mut W, lab: RowId, session: &Session) -> Result<(), Error>
-    ensures { Writes W.lender W.state (SetsSession lab.id session.now) tx.old tx.new result }
-{
-    let person = person_id_at(tx, lab, &session.person)?;
-    set_session_of(tx, lab, person, session)
 }

@@ -1,5 +1,5 @@
 -- Rows that are named by their keys, or by their parents: what each look-up means, and what it finds.
-use Rattle.std.proofs.Common.{◌≡◌, ℕ, ℤ, ◌&&◌, List, [], ◌∷◌, map, filter, codes, slice_get, Some, option_map, refl, sym, ap, ap₂, ◌∙◌}
+use Rattle.std.proofs.Common.{◌≡◌, ℕ, ℤ, ◌&&◌, List, [], ◌∷◌, map, filter, codes, slice_get, Some, option_map, refl, sym, ap, ap₂, ◌∙◌, lit≤}
 use Rattle.sqlite_value.specs.declared.value.Value.TheVariants.{Int}
 use Rattle.sqlite_value.specs.Order.{Row}
 use Rattle.sqlite_sql.specs.Program.{overlay}
@@ -16,8 +16,10 @@ use Rattle.lab_store_read.proofs.Texts.{Means, is_param}
 use Rattle.lab_store_read.proofs.Sorted.{equal_numbers, and_true}
 use Rattle.lab_store_write.specs.Calls.{Steps, Finds}
 use Rattle.lab_store_write.specs.Ids.{id_read}
+use Rattle.lab_store_write.specs.Causes.{IsOurs}
 use Rattle.lab_store_write.proofs.Inside.{steps_weaker}
 use Rattle.lab_store_write.proofs.Lookups.{by_key_query, rows_by_key, first_key}
+use Rattle.lab_store_write.proofs.Ours.{ours}
 use Rattle.lab_store_write_records.specs.VersionsShown.{records_shown, is_entry_of, is_signature_of}
 use Rattle.lab_store_write_records.proofs.VersionsShownWords.{entries_shown, signatures_shown}
 use Rattle.lab_store_tables.proofs.Comparing.{equal_ints}
@@ -33,6 +35,10 @@ record_tests = is_param 2 0 ∷ is_param 3 1 ∷ []
 pub record_means : Means record_text (by_key_query 15 record_tests (col 1 0 ∷ [])) (codes "id" ∷ [])
 unfolding understood everything
 record_means = record { read = (_, refl); command = refl; unlisted = refl; plain = (refl, refl) }
+
+pub record_ours : (lab : ℤ) (wanted : ℕ) → IsOurs record_text (Int lab ∷ number wanted ∷ [])
+unfolding understood everything
+record_ours lab wanted = ours _ _ (lit≤ tt, refl, refl, refl) record_means.unlisted
 
 pub records_read : (old new : State) (lab : ℤ) (wanted : ℕ) (rows : List Row) → IsTyped old.now
     → Shown record_text (Int lab ∷ number wanted ∷ []) old new rows → rows ≡ records_shown lab wanted (tables_in old.now.trees)
@@ -65,6 +71,10 @@ pub entries_means : Means entries_text (by_key_query 20 (is_param 2 0 ∷ []) (c
 unfolding understood everything
 entries_means = record { read = (_, refl); command = refl; unlisted = refl; plain = (refl, refl) }
 
+pub entries_ours : (parent : ℤ) → IsOurs entries_text (Int parent ∷ [])
+unfolding understood everything
+entries_ours parent = ours _ _ (lit≤ tt, refl, refl, refl) entries_means.unlisted
+
 pub entries_read : (old new : State) (parent : ℤ) (rows : List Row) → IsTyped old.now → Shown entries_text (Int parent ∷ []) old new rows
     → rows ≡ entries_shown parent (tables_in old.now.trees)
 entries_read old new parent rows typed h =
@@ -82,6 +92,10 @@ signatures_text = codes "SELECT id FROM signatures WHERE version = ?1 ORDER BY i
 pub signatures_means : Means signatures_text (by_key_query 22 (is_param 2 0 ∷ []) (col 1 0 ∷ [])) (codes "id" ∷ [])
 unfolding understood everything
 signatures_means = record { read = (_, refl); command = refl; unlisted = refl; plain = (refl, refl) }
+
+pub signatures_ours : (parent : ℤ) → IsOurs signatures_text (Int parent ∷ [])
+unfolding understood everything
+signatures_ours parent = ours _ _ (lit≤ tt, refl, refl, refl) signatures_means.unlisted
 
 pub signatures_read : (old new : State) (parent : ℤ) (rows : List Row) → IsTyped old.now → Shown signatures_text (Int parent ∷ []) old new rows
     → rows ≡ signatures_shown parent (tables_in old.now.trees)

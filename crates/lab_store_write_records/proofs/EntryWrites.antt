@@ -8,7 +8,8 @@ use Rattle.lab_store_tables.specs.Changes.{put_entry, put_signature}
 use Rattle.lab_store_tables.specs.Held.{IsTyped}
 use Rattle.lab_store_tables.specs.Family.{Entries, Signatures}
 use Rattle.lab_store_tables.proofs.FamilyWords.{values_of}
-use Rattle.lab_store_write.proofs.Inserts.{adds}
+use Rattle.lab_store_write.specs.Causes.{IsOurs}
+use Rattle.lab_store_write.proofs.Inserts.{adds, adds_ours}
 use Rattle.lab_store_write.proofs.Inside.{Wrote}
 
 -- ---- a row more of entries
@@ -25,6 +26,9 @@ pub adds_entry : (one : EntryRow) (old new : State) (count : ℕ) → IsTyped ol
     → Wrote (put_entry one (tables_in old.now.trees)) new.now
 adds_entry = adds Entries
 
+pub add_entry_ours : (one : EntryRow) → IsOurs add_entry_text (entry_values one)
+add_entry_ours = adds_ours Entries
+
 -- ---- a row more of signatures
 
 abbrev pub add_signature_text : List ℕ
@@ -38,3 +42,6 @@ pub adds_signature : (one : SignatureRow) (old new : State) (count : ℕ) → Is
     → one.id ≡ next_key signature_id (tables_in old.now.trees).signatures → Executes add_signature_text (signature_values one) old new (Ok count)
     → Wrote (put_signature one (tables_in old.now.trees)) new.now
 adds_signature = adds Signatures
+
+pub add_signature_ours : (one : SignatureRow) → IsOurs add_signature_text (signature_values one)
+add_signature_ours = adds_ours Signatures

@@ -1,5 +1,5 @@
 -- Rows that are named by their parents: what each look-up means, and what it finds.
-use Rattle.std.proofs.Common.{◌≡◌, ℕ, ℤ, List, [], ◌∷◌, codes, refl, ◌∙◌}
+use Rattle.std.proofs.Common.{◌≡◌, ℕ, ℤ, List, [], ◌∷◌, codes, refl, ◌∙◌, lit≤}
 use Rattle.sqlite_value.specs.declared.value.Value.TheVariants.{Int}
 use Rattle.sqlite_value.specs.Order.{Row}
 use Rattle.sqlite_sql.specs.Program.{overlay}
@@ -13,7 +13,9 @@ use Rattle.lab_store_tables.specs.Held.{IsTyped}
 use Rattle.lab_store_tables.specs.Family.{Fields, Choices}
 use Rattle.lab_store_read.proofs.Texts.{Means, is_param}
 use Rattle.lab_store_read.proofs.Sorted.{and_true}
+use Rattle.lab_store_write.specs.Causes.{IsOurs}
 use Rattle.lab_store_write.proofs.Lookups.{by_key_query, rows_by_key}
+use Rattle.lab_store_write.proofs.Ours.{ours}
 use Rattle.lab_store_write_records.specs.FieldsShown.{is_field_of, is_choice_of}
 use Rattle.lab_store_write_records.proofs.FieldsShownWords.{fields_shown, choices_shown}
 use Rattle.lab_store_tables.proofs.Comparing.{equal_ints}
@@ -26,6 +28,10 @@ fields_text = codes "SELECT id FROM fields WHERE form = ?1 ORDER BY id"
 pub fields_means : Means fields_text (by_key_query 10 (is_param 2 0 ∷ []) (col 1 0 ∷ [])) (codes "id" ∷ [])
 unfolding understood everything
 fields_means = record { read = (_, refl); command = refl; unlisted = refl; plain = (refl, refl) }
+
+pub fields_ours : (parent : ℤ) → IsOurs fields_text (Int parent ∷ [])
+unfolding understood everything
+fields_ours parent = ours _ _ (lit≤ tt, refl, refl, refl) fields_means.unlisted
 
 pub fields_read : (old new : State) (parent : ℤ) (rows : List Row) → IsTyped old.now → Shown fields_text (Int parent ∷ []) old new rows
     → rows ≡ fields_shown parent (tables_in old.now.trees)
@@ -44,6 +50,10 @@ choices_text = codes "SELECT id FROM choices WHERE field = ?1 ORDER BY id"
 pub choices_means : Means choices_text (by_key_query 13 (is_param 2 0 ∷ []) (col 1 0 ∷ [])) (codes "id" ∷ [])
 unfolding understood everything
 choices_means = record { read = (_, refl); command = refl; unlisted = refl; plain = (refl, refl) }
+
+pub choices_ours : (parent : ℤ) → IsOurs choices_text (Int parent ∷ [])
+unfolding understood everything
+choices_ours parent = ours _ _ (lit≤ tt, refl, refl, refl) choices_means.unlisted
 
 pub choices_read : (old new : State) (parent : ℤ) (rows : List Row) → IsTyped old.now → Shown choices_text (Int parent ∷ []) old new rows
     → rows ≡ choices_shown parent (tables_in old.now.trees)

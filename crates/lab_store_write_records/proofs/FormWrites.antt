@@ -8,7 +8,8 @@ use Rattle.lab_store_tables.specs.Changes.{put_form, put_field, put_choice}
 use Rattle.lab_store_tables.specs.Held.{IsTyped}
 use Rattle.lab_store_tables.specs.Family.{Forms, Fields, Choices}
 use Rattle.lab_store_tables.proofs.FamilyWords.{values_of}
-use Rattle.lab_store_write.proofs.Inserts.{adds, ids}
+use Rattle.lab_store_write.specs.Causes.{IsOurs}
+use Rattle.lab_store_write.proofs.Inserts.{adds, adds_ours, ids}
 use Rattle.lab_store_write.proofs.Inside.{Wrote}
 
 -- ---- a row more of forms
@@ -24,6 +25,9 @@ pub adds_form : (one : FormRow) (old new : State) (count : ℕ) → IsTyped old.
     → Executes add_form_text (form_values one) old new (Ok count)
     → Wrote (put_form one (tables_in old.now.trees)) new.now
 adds_form = adds Forms
+
+pub add_form_ours : (one : FormRow) → IsOurs add_form_text (form_values one)
+add_form_ours = adds_ours Forms
 
 -- the id that the connection tells then
 pub ids_form : (one : FormRow) (old new : State) (count : ℕ) → IsTyped old.now → Executes add_form_text (form_values one) old new (Ok count)
@@ -44,6 +48,9 @@ pub adds_field : (one : FieldRow) (old new : State) (count : ℕ) → IsTyped ol
     → Wrote (put_field one (tables_in old.now.trees)) new.now
 adds_field = adds Fields
 
+pub add_field_ours : (one : FieldRow) → IsOurs add_field_text (field_values one)
+add_field_ours = adds_ours Fields
+
 -- the id that the connection tells then
 pub ids_field : (one : FieldRow) (old new : State) (count : ℕ) → IsTyped old.now → Executes add_field_text (field_values one) old new (Ok count)
     → new.last_rowid ≡ next_key field_id (tables_in old.now.trees).fields
@@ -62,3 +69,6 @@ pub adds_choice : (one : ChoiceRow) (old new : State) (count : ℕ) → IsTyped 
     → Executes add_choice_text (choice_values one) old new (Ok count)
     → Wrote (put_choice one (tables_in old.now.trees)) new.now
 adds_choice = adds Choices
+
+pub add_choice_ours : (one : ChoiceRow) → IsOurs add_choice_text (choice_values one)
+add_choice_ours = adds_ours Choices

@@ -12,5 +12,7 @@ pub mod KnownForms
 pub mod KnownRecords
 pub mod RecordKeyLemmas
 pub mod RecordWrites
+pub mod Beside
+pub mod Leaving
 pub mod RecordsInTurn
 pub mod VersionKeyLemmas

@@ -1,5 +1,5 @@
 -- A version of a form that is named by its key: what the look-up means, and what it finds.
-use Rattle.std.proofs.Common.{◌≡◌, ℕ, ℤ, Bool, true, false, ◌&&◌, ◌==◌, bytes_eq, int_eq, List, [], ◌∷◌, codes, slice_get, Some, option_map, refl, sym, ap, ap₂, ◌∙◌}
+use Rattle.std.proofs.Common.{◌≡◌, ℕ, ℤ, Bool, true, false, ◌&&◌, ◌==◌, bytes_eq, int_eq, List, [], ◌∷◌, codes, slice_get, Some, option_map, refl, sym, ap, ap₂, ◌∙◌, lit≤}
 use Rattle.sqlite_value.specs.declared.value.Value.TheVariants.{Int, Text}
 use Rattle.sqlite_value.specs.Order.{Row}
 use Rattle.sqlite_sql.specs.Program.{overlay}
@@ -16,8 +16,10 @@ use Rattle.lab_store_read.proofs.Texts.{Means, is_param}
 use Rattle.lab_store_read.proofs.Sorted.{equal_numbers, and_true}
 use Rattle.lab_store_write.specs.Calls.{Steps, Finds}
 use Rattle.lab_store_write.specs.Ids.{id_read}
+use Rattle.lab_store_write.specs.Causes.{IsOurs}
 use Rattle.lab_store_write.proofs.Inside.{steps_weaker}
 use Rattle.lab_store_write.proofs.Lookups.{by_key_query, rows_by_key, first_key}
+use Rattle.lab_store_write.proofs.Ours.{ours}
 use Rattle.lab_store_write_records.specs.FormsShown.{forms_shown}
 use Rattle.lab_store_tables.proofs.Comparing.{equal_ints, equal_texts}
 
@@ -34,6 +36,10 @@ form_tests = is_param 2 0 ∷ is_param 3 1 ∷ is_param 4 2 ∷ []
 pub form_means : Means form_text (by_key_query 8 form_tests (col 1 0 ∷ [])) (codes "id" ∷ [])
 unfolding understood everything
 form_means = record { read = (_, refl); command = refl; unlisted = refl; plain = (refl, refl) }
+
+pub form_ours : (lab : ℤ) (code : List ℕ) (version : ℕ) → IsOurs form_text (Int lab ∷ Text code ∷ number version ∷ [])
+unfolding understood everything
+form_ours lab code version = ours _ _ (lit≤ tt, refl, refl, refl) form_means.unlisted
 
 pub forms_read : (old new : State) (lab : ℤ) (code : List ℕ) (version : ℕ) (rows : List Row) → IsTyped old.now
     → Shown form_text (Int lab ∷ Text code ∷ number version ∷ []) old new rows → rows ≡ forms_shown lab code version (tables_in old.now.trees)

@@ -1,5 +1,5 @@
 -- What each statement on records means, and what it makes of the tables.
-use Rattle.std.proofs.Common.{◌≡◌, ℕ, ℤ, List, [], ◌∷◌, codes, Ok, refl}
+use Rattle.std.proofs.Common.{◌≡◌, ℕ, ℤ, List, [], ◌∷◌, codes, Ok, refl, lit≤}
 use Rattle.sqlite_value.specs.declared.value.Value.TheVariants.{Int}
 use Rattle.sqlite_value.specs.Order.{Row}
 use Rattle.sqlite_tied.specs.Compute.{everything}
@@ -11,9 +11,11 @@ use Rattle.lab_store_tables.specs.Changes.{put_record, put_version, set_current}
 use Rattle.lab_store_tables.specs.Held.{IsTyped}
 use Rattle.lab_store_tables.specs.Family.{Records, Versions}
 use Rattle.lab_store_tables.proofs.FamilyWords.{values_of}
-use Rattle.lab_store_write.proofs.Inserts.{adds, ids}
+use Rattle.lab_store_write.specs.Causes.{IsOurs}
+use Rattle.lab_store_write.proofs.Inserts.{adds, adds_ours, ids}
 use Rattle.lab_store_write.proofs.Updates.{IsUpdate, given, by_id, sets}
 use Rattle.lab_store_write.proofs.Inside.{Wrote}
+use Rattle.lab_store_write.proofs.Ours.{ours}
 
 -- ---- a row more of records
 
@@ -29,6 +31,9 @@ pub adds_record : (one : RecordRow) (old new : State) (count : ℕ) → IsTyped 
     → Wrote (put_record one (tables_in old.now.trees)) new.now
 adds_record = adds Records
 
+pub add_record_ours : (one : RecordRow) → IsOurs add_record_text (record_values one)
+add_record_ours = adds_ours Records
+
 -- the id that the connection tells then
 pub ids_record : (one : RecordRow) (old new : State) (count : ℕ) → IsTyped old.now → Executes add_record_text (record_values one) old new (Ok count)
     → new.last_rowid ≡ next_key record_id (tables_in old.now.trees).records
@@ -42,6 +47,10 @@ current_text = codes "UPDATE records SET current = ?2 WHERE id = ?1"
 current_is : IsUpdate Records by_id (given 1 (codes "current" ∷ [])) current_text
 unfolding understood everything
 current_is = ((refl, refl), refl)
+
+pub current_ours : (id : ℤ) (version : ℕ) → IsOurs current_text (Int id ∷ number version ∷ [])
+unfolding understood everything
+current_ours id version = ours _ _ (lit≤ tt, refl, refl, refl) refl
 
 pub sets_current : (id : ℤ) (version : ℕ) (old new : State) (count : ℕ) → IsTyped old.now
     → Executes current_text (Int id ∷ number version ∷ []) old new (Ok count)
@@ -62,6 +71,9 @@ pub adds_version : (one : VersionRow) (old new : State) (count : ℕ) → IsType
     → Executes add_version_text (version_values one) old new (Ok count)
     → Wrote (put_version one (tables_in old.now.trees)) new.now
 adds_version = adds Versions
+
+pub add_version_ours : (one : VersionRow) → IsOurs add_version_text (version_values one)
+add_version_ours = adds_ours Versions
 
 -- the id that the connection tells then
 pub ids_version : (one : VersionRow) (old new : State) (count : ℕ) → IsTyped old.now → Executes add_version_text (version_values one) old new (Ok count)

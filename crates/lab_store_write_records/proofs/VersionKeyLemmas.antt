@@ -1,6 +1,6 @@
 -- A version of the record of a number, by one statement over both tables: what the look-up means, and what it finds.
 -- A record that has no such version is shown too, with NULL: so the first row is the first record's, whatever the keys are.
-use Rattle.std.proofs.Common.{◌≡◌, ℕ, ℤ, pos, negsuc, ◌<ℤ◌, Bool, true, false, cond, ◌&&◌, List, [], ◌∷◌, ◌++◌, map, filter, flat_map, codes, slice_get, Option, Some, None, option_map, option_and_then, refl, sym, ap, ap₂, ◌∙◌, subst, Ordering, Less, Equal}
+use Rattle.std.proofs.Common.{◌≡◌, ℕ, ℤ, pos, negsuc, ◌<ℤ◌, Bool, true, false, cond, ◌&&◌, List, [], ◌∷◌, ◌++◌, map, filter, flat_map, codes, slice_get, Option, Some, None, option_map, option_and_then, refl, sym, ap, ap₂, ◌∙◌, subst, Ordering, Less, Equal, lit≤}
 use Rattle.std.specs.List.{list_all, AllByRecursion}
 use Rattle.std.specs.List.Sorted.{IsPermutation}
 use Rattle.std.specs.Ordering.{ordering_then}
@@ -34,7 +34,9 @@ use Rattle.lab_store_tables.specs.Family.{Records, Versions}
 use Rattle.lab_store_read.proofs.Texts.{Means, is_param}
 use Rattle.lab_store_read.proofs.Sorted.{equal_numbers, and_true}
 use Rattle.lab_store_write.specs.Calls.{Steps, Finds}
+use Rattle.lab_store_write.specs.Causes.{IsOurs}
 use Rattle.lab_store_write.proofs.Inside.{steps_weaker}
+use Rattle.lab_store_write.proofs.Ours.{ours}
 use Rattle.lab_store_write_records.specs.VersionsShown.{current_of, version_in_record, ids_or_null, versions_shown, first_value}
 use Rattle.lab_store_tables.proofs.Comparing.{equal_ints}
 
@@ -202,6 +204,10 @@ pub current_means : Means current_text (beside_query current_tests) (codes "id" 
 unfolding understood everything
 current_means = record { read = (_, refl); command = refl; unlisted = refl; plain = (refl, refl) }
 
+pub current_ours : (lab : ℤ) (wanted : ℕ) → IsOurs current_text (Int lab ∷ number wanted ∷ [])
+unfolding understood everything
+current_ours lab wanted = ours _ _ (lit≤ tt, refl, refl, refl) current_means.unlisted
+
 pub current_read : (old new : State) (lab : ℤ) (wanted : ℕ) (rows : List Row) → IsTyped old.now → Shown current_text (Int lab ∷ number wanted ∷ []) old new rows
     → rows ≡ versions_shown current_of lab wanted (tables_in old.now.trees)
 current_read old new lab wanted =
@@ -217,6 +223,10 @@ version_tests = op2 (Compare Eq Binary) (col 2 2) (col 1 0) ∷ op2 (Compare Eq 
 pub version_means : Means version_text (beside_query version_tests) (codes "id" ∷ [])
 unfolding understood everything
 version_means = record { read = (_, refl); command = refl; unlisted = refl; plain = (refl, refl) }
+
+pub version_ours : (lab : ℤ) (wanted version : ℕ) → IsOurs version_text (Int lab ∷ number wanted ∷ number version ∷ [])
+unfolding understood everything
+version_ours lab wanted version = ours _ _ (lit≤ tt, refl, refl, refl) version_means.unlisted
 
 pub version_read : (old new : State) (lab : ℤ) (wanted version : ℕ) (rows : List Row) → IsTyped old.now
     → Shown version_text (Int lab ∷ number wanted ∷ number version ∷ []) old new rows → rows ≡ versions_shown (λ _. version) lab wanted (tables_in old.now.trees)

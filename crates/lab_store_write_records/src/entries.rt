@@ -1,11 +1,11 @@
 //! The entries of a version, each added after those that the version has.
 
-ghost use Rattle.std.specs.Prelude.{◌≡◌, Some};
 ghost use Rattle.lab_records_kept.specs.declared.changes.Change.TheVariants.{RowAdded};
-ghost use Rattle.lab_store_tables.specs.Changes.{AppliesIn, AddsEntry, person_named};
+ghost use Rattle.lab_store_tables.specs.Changes.{AppliesIn, AddsEntry};
 ghost use Rattle.lab_store_write.specs.Calls.{Writes, Becomes, MadeFrom};
 ghost use Rattle.lab_store_write.specs.Causes.{IsTooGreat};
-ghost use Rattle.lab_store_write_records.specs.EntriesAdded.{with_entry, AddsEntryOf};
+ghost use Rattle.lab_store_write.specs.Givers.{Knows};
+ghost use Rattle.lab_store_write_records.specs.EntriesAdded.{with_entry};
 
 use crate::named::current_version_at;
 use crate::places::entry_place;
@@ -14,7 +14,7 @@ use lab_forms_texts::Ordinal;
 use lab_seal_versions::EntryRow;
 use lab_store_write::statements::run;
 use lab_store_write::values::{id_value, moment_value, place_value, text_value};
-use lab_store_write::{RowId, Writable, person_id_at};
+use lab_store_write::{Giver, RowId, Writable, person_id_by};
 use sqlite::Error;
 
 // Adds the row.
@@ -48,54 +48,25 @@ fn insert_entry<W: Writable>(
     )
 }
 
-// Adds an entry after those that the version has. The person who entered it has the id.
-fn add_entry_of<W: Writable>(
-    tx: &mut W,
-    version: RowId,
-    person: RowId,
-    entry: &EntryRow,
-) -> Result<(), Error>
-    ensures { Writes W.lender W.state (AddsEntryOf version.id person.id entry.now)
-        tx.old tx.new result }
-{
-    let place = entry_place(tx, version)?;
-    insert_entry(tx, version, place, person, entry)?;
-    Ok(())
-}
-
 /// Adds an entry after those that the version has.
 ///
 /// # Errors
 /// The errors of `Writable`, or nobody has the code of the person who entered it.
-pub fn add_entry<W: Writable>(
+pub(crate) fn add_entry<W: Writable>(
     tx: &mut W,
     lab: RowId,
+    giver: Option<Giver<'_>>,
     version: RowId,
     entry: &EntryRow,
 ) -> Result<(), Error>
-    ensures { Writes W.lender W.state (AddsEntry lab.id version.id entry.now) tx.old tx.new result }
-{
-    let person = person_id_at(tx, lab, &entry.person)?;
-    add_entry_of(tx, version, person, entry)
-}
-
-/// Adds an entry to the current version of a record. The person who entered it has the id.
-///
-/// # Errors
-/// The errors of `Writable`, or no record has the number.
-pub fn enter_row_of<W: Writable>(
-    tx: &mut W,
-    lab: RowId,
-    wanted: Ordinal,
-    person: RowId,
-    entry: &EntryRow,
-) -> Result<(), Error>
     ensures { Writes W.lender W.state
-        (MadeFrom (λ t. person_named t lab.id entry.now.person ≡ Some person.id)
-        (AppliesIn lab.id (RowAdded wanted entry.now))) tx.old tx.new result }
+        (MadeFrom (Knows lab.id giver.entry) (AddsEntry lab.id version.id entry.now))
+        tx.old tx.new result }
 {
-    let version = current_version_at(tx, lab, wanted)?;
-    add_entry_of(tx, version, person, entry)
+    let person = person_id_by(tx, lab, giver, &entry.person)?;
+    let place = entry_place(tx, version)?;
+    insert_entry(tx, version, place, person, entry)?;
+    Ok(())
 }
 
 /// Adds an entry to the current version of a record.
@@ -105,12 +76,14 @@ pub fn enter_row_of<W: Writable>(
 pub fn enter_row<W: Writable>(
     tx: &mut W,
     lab: RowId,
+    giver: Option<Giver<'_>>,
     wanted: Ordinal,
     entry: &EntryRow,
 ) -> Result<(), Error>
-    ensures { Writes W.lender W.state (AppliesIn lab.id (RowAdded wanted entry.now))
+    ensures { Writes W.lender W.state
+        (MadeFrom (Knows lab.id giver.entry) (AppliesIn lab.id (RowAdded wanted entry.now)))
         tx.old tx.new result }
 {
-    let person = person_id_at(tx, lab, &entry.person)?;
-    enter_row_of(tx, lab, wanted, person, entry)
+    let version = current_version_at(tx, lab, wanted)?;
+    add_entry(tx, lab, giver, version, entry)
 }

@@ -14,9 +14,8 @@ mod signatures;
 mod texts;
 mod versions;
 
-pub use entries::{add_entry, enter_row, enter_row_of};
+pub use entries::enter_row;
 pub use forms::add_form;
-pub use named::record_at;
 pub use records::add_record;
-pub use signatures::{add_signature, sign_version, sign_version_of};
+pub use signatures::sign_version;
 pub use versions::open_version;

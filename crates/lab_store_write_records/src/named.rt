@@ -31,7 +31,11 @@ fn record_rows<W: Writable>(tx: &mut W, lab: RowId, wanted: Ordinal) -> Result<V
 ///
 /// # Errors
 /// The errors of `Writable`, or no such row exists.
-pub fn record_at<W: Writable>(tx: &mut W, lab: RowId, wanted: Ordinal) -> Result<RowId, Error>
+pub(crate) fn record_at<W: Writable>(
+    tx: &mut W,
+    lab: RowId,
+    wanted: Ordinal,
+) -> Result<RowId, Error>
     ensures { AnswersCall W.lender W.state (λ one. Finds (λ t.
         option_map record_id (record_named t lab.id wanted) ≡ Some one.id))
         tx.old tx.new result }

@@ -5,7 +5,8 @@ ghost use Rattle.sqlite_keyed.specs.Keyed.{next_key};
 ghost use Rattle.lab_records_kept.specs.declared.changes.Change.TheVariants.{RecordAdded};
 ghost use Rattle.lab_store_tables.specs.Rows.{LabRow, record_id};
 ghost use Rattle.lab_store_tables.specs.Changes.{AppliesIn, in_lab, InTurn, AddsVersion};
-ghost use Rattle.lab_store_write.specs.Calls.{AnswersCall, Writes, Becomes};
+ghost use Rattle.lab_store_write.specs.Calls.{AnswersCall, Writes, Becomes, MadeFrom};
+ghost use Rattle.lab_store_write.specs.Givers.{Knows, EachKnowing};
 ghost use Rattle.lab_store_write_records.specs.RecordsAdded.{with_record};
 
 use crate::named_forms::form_id_at;
@@ -15,7 +16,7 @@ use lab_records_kept::{Record, Version};
 use lab_store_write::ids::insert;
 use lab_store_write::statements::run;
 use lab_store_write::values::{id_value, ordinal_value, place_value, text_value};
-use lab_store_write::{RowId, Writable};
+use lab_store_write::{Giver, RowId, Writable};
 use sqlite::Error;
 
 // Adds the row.
@@ -65,14 +66,16 @@ fn set_records<W: Writable>(tx: &mut W, lab: RowId, count: Ordinal) -> Result<us
 fn add_versions<W: Writable>(
     tx: &mut W,
     lab: RowId,
+    giver: Option<Giver<'_>>,
     kept: RowId,
     versions: &[Version],
 ) -> Result<(), Error>
-    ensures { Writes W.lender W.state (InTurn (AddsVersion lab.id kept.id) versions.now)
+    ensures { Writes W.lender W.state
+        (InTurn (EachKnowing lab.id giver.entry (AddsVersion lab.id kept.id)) versions.now)
         tx.old tx.new result }
 {
     for one in versions {
-        add_version(tx, lab, kept, one)?;
+        add_version(tx, lab, giver, kept, one)?;
     }
     Ok(())
 }
@@ -81,13 +84,19 @@ fn add_versions<W: Writable>(
 ///
 /// # Errors
 /// The errors of `Writable`, or no such version of a form exists, or nobody has one of the codes.
-pub fn add_record<W: Writable>(tx: &mut W, lab: RowId, kept: &Record) -> Result<(), Error>
-    ensures { Writes W.lender W.state (AppliesIn lab.id (RecordAdded kept.now))
+pub fn add_record<W: Writable>(
+    tx: &mut W,
+    lab: RowId,
+    giver: Option<Giver<'_>>,
+    kept: &Record,
+) -> Result<(), Error>
+    ensures { Writes W.lender W.state
+        (MadeFrom (Knows lab.id giver.entry) (AppliesIn lab.id (RecordAdded kept.now)))
         tx.old tx.new result }
 {
     let form = form_id_at(tx, lab, &kept.form.code, kept.form.version)?;
     let id = insert_record(tx, lab, form, kept)?;
     set_records(tx, lab, kept.number)?;
-    add_versions(tx, lab, id, kept.versions.as_slice())?;
+    add_versions(tx, lab, giver, id, kept.versions.as_slice())?;
     Ok(())
 }

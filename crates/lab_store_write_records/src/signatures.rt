@@ -1,11 +1,11 @@
 //! The signatures of a version, each added after those that the version has.
 
-ghost use Rattle.std.specs.Prelude.{◌≡◌, Some};
 ghost use Rattle.lab_records_kept.specs.declared.changes.Change.TheVariants.{SignatureAdded};
-ghost use Rattle.lab_store_tables.specs.Changes.{AppliesIn, AddsSignature, person_named};
+ghost use Rattle.lab_store_tables.specs.Changes.{AppliesIn, AddsSignature};
 ghost use Rattle.lab_store_write.specs.Calls.{Writes, Becomes, MadeFrom};
 ghost use Rattle.lab_store_write.specs.Causes.{IsTooGreat};
-ghost use Rattle.lab_store_write_records.specs.EntriesAdded.{with_signature, AddsSignatureOf};
+ghost use Rattle.lab_store_write.specs.Givers.{Knows};
+ghost use Rattle.lab_store_write_records.specs.EntriesAdded.{with_signature};
 
 use crate::named::version_at;
 use crate::places::signature_place;
@@ -14,7 +14,7 @@ use lab_forms_texts::Ordinal;
 use lab_records_kept::Signature;
 use lab_store_write::statements::run;
 use lab_store_write::values::{blob_value, id_value, moment_value, place_value, text_value};
-use lab_store_write::{RowId, Writable, person_id_at};
+use lab_store_write::{Giver, RowId, Writable, person_id_by};
 use sqlite::Error;
 
 // Adds the row.
@@ -50,56 +50,25 @@ fn insert_signature<W: Writable>(
     )
 }
 
-// Adds a signature after those that the version has. The signer has the id.
-fn add_signature_of<W: Writable>(
-    tx: &mut W,
-    version: RowId,
-    person: RowId,
-    signature: &Signature,
-) -> Result<(), Error>
-    ensures { Writes W.lender W.state (AddsSignatureOf version.id person.id signature.now)
-        tx.old tx.new result }
-{
-    let place = signature_place(tx, version)?;
-    insert_signature(tx, version, place, person, signature)?;
-    Ok(())
-}
-
 /// Adds a signature after those that the version has.
 ///
 /// # Errors
 /// The errors of `Writable`, or nobody has the code of the signer.
-pub fn add_signature<W: Writable>(
+pub(crate) fn add_signature<W: Writable>(
     tx: &mut W,
     lab: RowId,
+    giver: Option<Giver<'_>>,
     version: RowId,
     signature: &Signature,
 ) -> Result<(), Error>
-    ensures { Writes W.lender W.state (AddsSignature lab.id version.id signature.now)
+    ensures { Writes W.lender W.state
+        (MadeFrom (Knows lab.id giver.entry) (AddsSignature lab.id version.id signature.now))
         tx.old tx.new result }
 {
-    let person = person_id_at(tx, lab, &signature.person)?;
-    add_signature_of(tx, version, person, signature)
-}
-
-/// Adds a signature of a version of a record. The signer has the id.
-///
-/// # Errors
-/// The errors of `Writable`, or no such version exists.
-pub fn sign_version_of<W: Writable>(
-    tx: &mut W,
-    lab: RowId,
-    wanted: Ordinal,
-    version: Ordinal,
-    person: RowId,
-    signature: &Signature,
-) -> Result<(), Error>
-    ensures { Writes W.lender W.state
-        (MadeFrom (λ t. person_named t lab.id signature.now.person ≡ Some person.id)
-        (AppliesIn lab.id (SignatureAdded wanted version signature.now))) tx.old tx.new result }
-{
-    let signed = version_at(tx, lab, wanted, version)?;
-    add_signature_of(tx, signed, person, signature)
+    let person = person_id_by(tx, lab, giver, &signature.person)?;
+    let place = signature_place(tx, version)?;
+    insert_signature(tx, version, place, person, signature)?;
+    Ok(())
 }
 
 /// Adds a signature of a version of a record.
@@ -109,13 +78,14 @@ pub fn sign_version_of<W: Writable>(
 pub fn sign_version<W: Writable>(
     tx: &mut W,
     lab: RowId,
+    giver: Option<Giver<'_>>,
     wanted: Ordinal,
     version: Ordinal,
     signature: &Signature,
 ) -> Result<(), Error>
-    ensures { Writes W.lender W.state
-        (AppliesIn lab.id (SignatureAdded wanted version signature.now)) tx.old tx.new result }
+    ensures { Writes W.lender W.state (MadeFrom (Knows lab.id giver.entry)
+        (AppliesIn lab.id (SignatureAdded wanted version signature.now))) tx.old tx.new result }
 {
-    let person = person_id_at(tx, lab, &signature.person)?;
-    sign_version_of(tx, lab, wanted, version, person, signature)
+    let signed = version_at(tx, lab, wanted, version)?;
+    add_signature(tx, lab, giver, signed, signature)
 }

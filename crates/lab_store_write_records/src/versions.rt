@@ -6,18 +6,21 @@ ghost use Rattle.lab_records_kept.specs.declared.changes.Change.TheVariants.{Ver
 ghost use Rattle.lab_store_tables.specs.Rows.{version_id};
 ghost use Rattle.lab_store_tables.specs.Columns.{format_number};
 ghost use Rattle.lab_store_tables.specs.Changes.{AppliesIn, InTurn, AddsEntry, AddsSignature, AddsVersion, set_current as with_current};
-ghost use Rattle.lab_store_write.specs.Calls.{AnswersCall, Writes, Becomes};
+ghost use Rattle.lab_store_write.specs.Calls.{AnswersCall, Writes, Becomes, MadeFrom};
+ghost use Rattle.lab_store_write.specs.Givers.{Knows, EachKnowing};
 ghost use Rattle.lab_store_write_records.specs.RecordsAdded.{with_version};
 
+use crate::entries::add_entry;
+use crate::named::record_at;
 use crate::reason_texts::cause_or_null;
-use crate::{add_entry, add_signature, record_at};
+use crate::signatures::add_signature;
 use lab_forms_texts::Ordinal;
 use lab_records_kept::{Signature, Version};
 use lab_seal_versions::{EntryRow, Format};
 use lab_store_write::ids::insert;
 use lab_store_write::statements::run;
 use lab_store_write::values::{id_value, moment_value, ordinal_value, small_value};
-use lab_store_write::{RowId, Writable, person_id_at};
+use lab_store_write::{Giver, RowId, Writable, person_id_by};
 use sqlite::Error;
 
 // The number of a format.
@@ -62,14 +65,16 @@ fn insert_version<W: Writable>(
 fn add_entries<W: Writable>(
     tx: &mut W,
     lab: RowId,
+    giver: Option<Giver<'_>>,
     version: RowId,
     rows: &[EntryRow],
 ) -> Result<(), Error>
-    ensures { Writes W.lender W.state (InTurn (AddsEntry lab.id version.id) rows.now)
+    ensures { Writes W.lender W.state
+        (InTurn (EachKnowing lab.id giver.entry (AddsEntry lab.id version.id)) rows.now)
         tx.old tx.new result }
 {
     for one in rows {
-        add_entry(tx, lab, version, one)?;
+        add_entry(tx, lab, giver, version, one)?;
     }
     Ok(())
 }
@@ -78,14 +83,16 @@ fn add_entries<W: Writable>(
 fn add_signatures<W: Writable>(
     tx: &mut W,
     lab: RowId,
+    giver: Option<Giver<'_>>,
     version: RowId,
     signatures: &[Signature],
 ) -> Result<(), Error>
-    ensures { Writes W.lender W.state (InTurn (AddsSignature lab.id version.id) signatures.now)
+    ensures { Writes W.lender W.state
+        (InTurn (EachKnowing lab.id giver.entry (AddsSignature lab.id version.id)) signatures.now)
         tx.old tx.new result }
 {
     for one in signatures {
-        add_signature(tx, lab, version, one)?;
+        add_signature(tx, lab, giver, version, one)?;
     }
     Ok(())
 }
@@ -97,16 +104,18 @@ fn add_signatures<W: Writable>(
 pub(crate) fn add_version<W: Writable>(
     tx: &mut W,
     lab: RowId,
+    giver: Option<Giver<'_>>,
     kept: RowId,
     version: &Version,
 ) -> Result<(), Error>
-    ensures { Writes W.lender W.state (AddsVersion lab.id kept.id version.now)
+    ensures { Writes W.lender W.state
+        (MadeFrom (Knows lab.id giver.entry) (AddsVersion lab.id kept.id version.now))
         tx.old tx.new result }
 {
-    let opener = person_id_at(tx, lab, &version.opener)?;
+    let opener = person_id_by(tx, lab, giver, &version.opener)?;
     let id = insert_version(tx, kept, opener, version)?;
-    add_entries(tx, lab, id, version.rows.rows())?;
-    add_signatures(tx, lab, id, version.signatures.as_slice())?;
+    add_entries(tx, lab, giver, id, version.rows.rows())?;
+    add_signatures(tx, lab, giver, id, version.signatures.as_slice())?;
     Ok(())
 }
 
@@ -129,14 +138,16 @@ fn set_current<W: Writable>(tx: &mut W, kept: RowId, version: Ordinal) -> Result
 pub fn open_version<W: Writable>(
     tx: &mut W,
     lab: RowId,
+    giver: Option<Giver<'_>>,
     wanted: Ordinal,
     version: &Version,
 ) -> Result<(), Error>
-    ensures { Writes W.lender W.state (AppliesIn lab.id (VersionOpened wanted version.now))
+    ensures { Writes W.lender W.state
+        (MadeFrom (Knows lab.id giver.entry) (AppliesIn lab.id (VersionOpened wanted version.now)))
         tx.old tx.new result }
 {
     let kept = record_at(tx, lab, wanted)?;
-    add_version(tx, lab, kept, version)?;
+    add_version(tx, lab, giver, kept, version)?;
     set_current(tx, kept, version.origin.number())?;
     Ok(())
 }

@@ -4,6 +4,8 @@ use Rattle.sqlite.specs.Effect.{Database}
 use Rattle.sqlite.specs.Held.{state}
 use Rattle.lab_store_tables.specs.Rows.{tables_in}
 use Rattle.lab_store_tables.specs.Held.{IsTyped}
+use Rattle.lab_store_write.specs.Transactions.{TransactionEndsForCause}
+use Rattle.lab_store_write.proofs.Transactions.{committed_so, given_up_so}
 use Rattle.lab_move_files.specs.Commits.{MakesAtOnce}
 use Rattle.lab_move_laws.specs.Namings.{NamesSchema}
 use Rattle.lab_move_files.proofs.Commits.{ends_by}
@@ -23,4 +25,15 @@ returns g c =
           (λ clean. (c.in_ok-name_inside.ensures.made clean).inside) (λ clean opened. (c.in_ok-name_inside.ensures.made clean).made)
           c.commit.ensures.survives c.commit.result (λ clean. on_ok_weaker c.commit.result (λ it. it.1) (c.commit.ensures.ok clean))
           c.commit.ensures.err);
+      cause = subst (λ h. TransactionEndsForCause g.S.Store ⊥ c.args.conn.now h c.commit.result) same
+          (committed_so g.S.Store c.args.conn.now c.transaction-tx.result.conn.now c.name_inside.new.tx.conn.now end c.transaction-tx.ensures.begun c.name_inside.ensures.survives
+          (λ clean. (c.in_ok-name_inside.ensures.made clean).inside) c.commit.ensures.survives ⊥ c.commit.result c.commit.ensures.err);
     }
+
+pub returns-in_err-name_inside-clause-cause : goal.returns-in_err-name_inside-clause-cause
+returns-in_err-name_inside-clause-cause g c =
+    let end = c.drop-tx.new.self.0 in
+    let same : end ≡ c.conn-1.given.0 = search rules in
+    subst (λ h. TransactionEndsForCause g.S.Store ⊥ c.args.conn.now h c.from_residual.result) same
+    (given_up_so g.S.Store c.args.conn.now c.transaction-tx.result.conn.now c.name_inside.new.tx.conn.now end c.transaction-tx.ensures.begun c.name_inside.ensures.survives
+    c.in_err-name_inside.ensures.failed c.drop-tx.ensures.survives c.drop-tx.ensures.undone c.from_residual.result c.from_residual.ensures.1)

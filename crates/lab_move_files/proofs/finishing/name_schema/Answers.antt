@@ -5,7 +5,7 @@ use Rattle.lab_store_write.specs.Calls.{Steps}
 use Rattle.lab_store_write.specs.Causes.{FailsBy}
 use Rattle.lab_store_write.proofs.Failing.{ran_badly}
 use Rattle.lab_move_laws.specs.Namings.{NamesSchema}
-use Rattle.lab_move_files.proofs.Naming.{naming_text, schema_named}
+use Rattle.lab_move_files.proofs.Naming.{naming_ours, naming_text, schema_named}
 use Rattle.lab_move_files.proofs.finishing.name_schema.Goals as goal
 
 if_named : (old new : State) (r : Result ℕ Error) → ExecutesInside 0 naming_text [] old new r → IfOk r (λ _. Steps NamesSchema old new)
@@ -14,7 +14,7 @@ if_named old new (Err e) ran = tt
 
 if_refused : {T : Type 0} (state : T → State) (old new : T) (r : Result ℕ Error) → ExecutesInside 0 naming_text [] (state old) (state new) r → IfErr r (λ e. ⊥ ⊎ FailsBy state old new e)
 if_refused state old new (Ok count) ran = tt
-if_refused state old new (Err e) ran = inr (ran_badly state naming_text [] old new e ran)
+if_refused state old new (Err e) ran = inr (ran_badly state naming_text [] naming_ours old new e ran)
 
 pub returns : goal.returns
 returns g c = record {

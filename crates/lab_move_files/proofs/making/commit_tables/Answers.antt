@@ -1,10 +1,13 @@
-use Rattle.std.proofs.Common.{◌≡◌, rules, subst}
+use Rattle.std.proofs.Common.{◌≡◌, IsFalse, rules, subst}
 use Rattle.std.proofs.lemmas.Result.{on_ok_weaker}
 use Rattle.sqlite.specs.Effect.{Database}
 use Rattle.sqlite.specs.Held.{state}
 use Rattle.lab_store_files.specs.NewFiles.{IsBlank}
+use Rattle.lab_store_read.specs.Faults.{is_out_of_memory}
+use Rattle.lab_move_files.specs.Causes.{MakingEndsForCause}
 use Rattle.lab_move_files.specs.Commits.{MakesAtOnce}
 use Rattle.lab_move_files.specs.Unfinished.{IsUnfinished}
+use Rattle.lab_move_files.proofs.Causes.{making_committed, making_given_up}
 use Rattle.lab_move_files.proofs.Commits.{ends_by}
 use Rattle.lab_move_files.proofs.making.commit_tables.Goals as goal
 
@@ -22,4 +25,15 @@ returns g c =
           c.in_ok-make_inside.ensures.inside (λ clean opened. c.in_ok-make_inside.ensures.made clean)
           c.commit.ensures.survives c.commit.result (λ clean. on_ok_weaker c.commit.result (λ it. it.1) (c.commit.ensures.ok clean))
           c.commit.ensures.err);
+      cause = subst (λ h. MakingEndsForCause g.S.Store (λ e. IsFalse (is_out_of_memory e)) c.args.conn.now h c.commit.result) same
+          (making_committed g.S.Store c.args.conn.now c.transaction-tx.result.conn.now c.make_inside.new.tx.conn.now end c.transaction-tx.ensures.begun c.make_inside.ensures.survives
+          c.in_ok-make_inside.ensures.inside c.commit.ensures.survives c.commit.result c.commit.ensures.err);
     }
+
+pub returns-in_err-make_inside-clause-cause : goal.returns-in_err-make_inside-clause-cause
+returns-in_err-make_inside-clause-cause g c =
+    let end = c.drop-tx.new.self.0 in
+    let same : end ≡ c.conn-1.given.0 = search rules in
+    subst (λ h. MakingEndsForCause g.S.Store (λ e. IsFalse (is_out_of_memory e)) c.args.conn.now h c.from_residual.result) same
+    (making_given_up g.S.Store c.args.conn.now c.transaction-tx.result.conn.now c.make_inside.new.tx.conn.now end c.transaction-tx.ensures.begun c.make_inside.ensures.survives
+    c.in_err-make_inside.ensures.failed c.drop-tx.ensures.survives c.drop-tx.ensures.undone c.from_residual.result c.from_residual.ensures.1)

@@ -16,5 +16,5 @@ returns-in_err-make_table g c same =
     let texts = c.args.texts.now in
     let i = c.loop-text.text-index in
     let within : i < length texts = omega (arith, c.loop-text-test.true) in
-    makes_failed c.from_residual.result c.from_residual.ensures.0 (c.loop-text.invariant same)
-    (c.make_table.ensures i (desk, desk_text) (place_within texts (λ text. text.now) same i within) (text_at texts (λ text. text.now) same i _ (desk, desk_text) within))
+    makes_failed c.from_residual.result c.from_residual.ensures.1 (c.loop-text.invariant same)
+    (c.in_err-make_table.ensures i (desk, desk_text) (place_within texts (λ text. text.now) same i within) (text_at texts (λ text. text.now) same i _ (desk, desk_text) within))

@@ -1,5 +1,4 @@
 use Rattle.std.proofs.Common.{◌≡◌, Ok, map, take}
-use Rattle.sqlite.specs.declared.error.Error.{Error}
 use Rattle.lab_store_files.specs.NewFiles.{IsBlank, IsEmptyUnder}
 use Rattle.lab_move_files.specs.Tables.{own_tables, schema_of}
 use Rattle.lab_move_files.specs.Unfinished.{Makes}
@@ -9,4 +8,4 @@ use Rattle.lab_move_files.proofs.making.make_each.Given as goal
 abbrev pub invariant-loop-text : goal.invariant-loop-text
 invariant-loop-text g l =
     map (λ text. text.now) l.texts ≡ map (λ one. one.1) own_tables
-    → Makes {A = Unit {0}} {E = Error} g.W.Writable.lender g.W.Writable.state IsBlank (IsEmptyUnder (schema_of (take l.text-index own_tables))) l.fn.tx l.tx (Ok tt)
+    → Makes {A = Unit {0}} g.W.Writable.lender g.W.Writable.state IsBlank (IsEmptyUnder (schema_of (take l.text-index own_tables))) l.fn.tx l.tx (Ok tt)

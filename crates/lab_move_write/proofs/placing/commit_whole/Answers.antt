@@ -1,6 +1,9 @@
 use Rattle.std.proofs.Common.{◌≡◌, rules, subst}
 use Rattle.std.proofs.lemmas.Result.{on_ok_weaker}
 use Rattle.sqlite.specs.Held.{state}
+use Rattle.lab_store_write.specs.Causes.{IsTooGreat}
+use Rattle.lab_store_write.specs.Transactions.{TransactionEndsForCause}
+use Rattle.lab_store_write.proofs.Transactions.{committed_so, given_up_so}
 use Rattle.lab_move_files.specs.Commits.{MakesAtOnce}
 use Rattle.lab_move_files.proofs.Commits.{ends_by}
 use Rattle.lab_move_write.proofs.GivenUp.{PlacesIn}
@@ -17,4 +20,15 @@ returns g c =
           (λ clean. (c.in_ok-add_inside.ensures.made clean).inside) (λ clean opened. (c.in_ok-add_inside.ensures.made clean).made)
           c.commit.ensures.survives c.commit.result (λ clean. on_ok_weaker c.commit.result (λ it. it.1) (c.commit.ensures.ok clean))
           c.commit.ensures.err);
+      cause = subst (λ h. TransactionEndsForCause g.S.Store (IsTooGreat c.args.lab.now.strays) c.args.conn.now h c.commit.result) same
+          (committed_so g.S.Store c.args.conn.now c.transaction-tx.result.conn.now c.add_inside.new.tx.conn.now end c.transaction-tx.ensures.begun c.add_inside.ensures.survives
+          (λ clean. (c.in_ok-add_inside.ensures.made clean).inside) c.commit.ensures.survives (IsTooGreat c.args.lab.now.strays) c.commit.result c.commit.ensures.err);
     }
+
+pub returns-in_err-add_inside-clause-cause : goal.returns-in_err-add_inside-clause-cause
+returns-in_err-add_inside-clause-cause g c =
+    let end = c.drop-tx.new.self.0 in
+    let same : end ≡ c.conn-1.given.0 = search rules in
+    subst (λ h. TransactionEndsForCause g.S.Store (IsTooGreat c.args.lab.now.strays) c.args.conn.now h c.from_residual.result) same
+    (given_up_so g.S.Store c.args.conn.now c.transaction-tx.result.conn.now c.add_inside.new.tx.conn.now end c.transaction-tx.ensures.begun c.add_inside.ensures.survives
+    c.in_err-add_inside.ensures.failed c.drop-tx.ensures.survives c.drop-tx.ensures.undone c.from_residual.result c.from_residual.ensures.1)

@@ -1,6 +1,7 @@
-use Rattle.std.proofs.Common.{Ok}
+use Rattle.std.proofs.Common.{Ok, sym, ◌∙◌}
 use Rattle.sqlite.specs.Held.{state}
 use Rattle.lab_store_tables.specs.Ready.{IsMadeBy}
+use Rattle.lab_store_write.proofs.Transactions.{isnt_memory, told_so}
 use Rattle.lab_move_files.proofs.Commits.{told_ok, told_err, makes_weaker}
 use Rattle.lab_move_laws.specs.Placings.{PlacesByRules}
 use Rattle.lab_move_write.specs.Carrying.{Carries}
@@ -24,3 +25,7 @@ returns-in-Err-clause-placed g c within bound dual =
     let old = state g.S.Store c.args.conn.now in
     let lab = c.args.lab.now in
     told_err _ _ (makes_weaker (IsMadeBy (PlacesByRules lab) old) (Carries lab old.now) _ (carries lab within bound dual old.now) c.in-Err.ensures.ends)
+
+pub returns-in-Err-clause-cause : goal.returns-in-Err-clause-cause
+returns-in-Err-clause-cause g c =
+    told_so c.in-Err.error c.read_fault.result (λ told. isnt_memory c.in-Err.error (sym c.read_fault.ensures ∙ told)) c.in-Err.ensures.cause

@@ -4,7 +4,7 @@ use Rattle.sqlite_value.specs.Order.{Row}
 use Rattle.sqlite.specs.Values.{bound}
 use Rattle.sqlite.specs.State.{ExecutesInside}
 use Rattle.lab_store_write.proofs.Writers.{not_asked, run_fails}
-use Rattle.lab_store_write_changes.proofs.LabMore.{add_lab_text, lab_given, lab_added, lab_sound}
+use Rattle.lab_store_write_changes.proofs.LabMore.{add_lab_ours, add_lab_text, lab_given, lab_added, lab_sound}
 use Rattle.lab_move_write.proofs.rows.add_lab.Goals as goal
 
 pub returns-in_err-strays-clause-writes : goal.returns-in_err-strays-clause-writes
@@ -12,7 +12,11 @@ returns-in_err-strays-clause-writes g c = not_asked c.args.tx.now (inl c.in_err-
 
 pub returns-in_err-run-clause-writes : goal.returns-in_err-run-clause-writes
 returns-in_err-run-clause-writes g c =
-    run_fails _ _ c.in_err-run.ensures.stays c.in_err-run.ensures.runs c.from_residual-in_err-run.result c.from_residual-in_err-run.ensures.1
+    let lab = c.args.lab.now in
+    let given : bound (c.text_value.result ∷ c.text_value-2.result ∷ c.moment_value.result ∷ c.in_ok-strays.strays ∷ []) ≡ lab_given lab =
+    λ i. (c.text_value.ensures ∙ ap Text c.as_str-code.ensures.value) i ∷ (c.text_value-2.ensures ∙ ap Text c.as_str-name.ensures.value) i
+    ∷ c.moment_value.ensures i ∷ c.in_ok-strays.ensures.value i ∷ [] in
+    run_fails add_lab_text (lab_given lab) (add_lab_ours lab) given c.in_err-run.ensures.stays c.in_err-run.ensures.runs c.from_residual-in_err-run.result c.from_residual-in_err-run.ensures.1
 
 pub returns-clause-writes : goal.returns-clause-writes
 returns-clause-writes g c =

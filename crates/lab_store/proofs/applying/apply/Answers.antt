@@ -9,7 +9,8 @@ use Rattle.lab_store_read.specs.Causes.{HasFirst}
 use Rattle.lab_store_read_records.specs.Readable.{HasLab}
 use Rattle.lab_store_read_records.specs.Shown.{labs_shown}
 use Rattle.lab_store.specs.Causes.{RefusesChanges}
-use Rattle.lab_store.proofs.Causes.{isnt_memory, told_after, told_as}
+use Rattle.lab_store_write.proofs.Transactions.{isnt_memory}
+use Rattle.lab_store.proofs.Causes.{told_after, told_as}
 use Rattle.lab_store.proofs.After.{ends_ok, ends_err, found_row, counted_now}
 use Rattle.lab_store.proofs.applying.apply.Goals as goal
 

@@ -6,7 +6,8 @@ use Rattle.lab_store_laws.specs.Steps.{StepsBy}
 use Rattle.lab_store_write_changes.specs.Causes.{OneIsTooMuch}
 use Rattle.lab_store.specs.Causes.{TransactionHasItsCause}
 use Rattle.lab_store.specs.Commits.{EndsStep}
-use Rattle.lab_store.proofs.Causes.{committed_so, given_up_so}
+use Rattle.lab_store_write.proofs.Transactions.{committed_so, given_up_so}
+use Rattle.lab_store.proofs.Causes.{ready_so}
 use Rattle.lab_store.proofs.Commits.{ends_by}
 use Rattle.lab_store.proofs.applying.commit_all.Goals as goal
 
@@ -28,8 +29,8 @@ returns g c =
     c.commit.ensures.survives c.commit.result (λ clean. second _ _ _ _ c.commit.result (c.commit.ensures.ok clean)) c.commit.ensures.err) in
     let cause : TransactionHasItsCause g.S.Store (OneIsTooMuch c.args.changes.now) c.args.conn.now c.conn-2-1.given.0 c.commit.result =
     subst (λ h. TransactionHasItsCause g.S.Store (OneIsTooMuch c.args.changes.now) c.args.conn.now h c.commit.result) same
-    (committed_so g.S.Store c.args.conn.now begun c.make_inside.new.tx.conn.now end c.transaction-tx.ensures.begun c.make_inside.ensures.survives
-    (λ clean. c.in_ok-make_inside.ensures.inside clean) c.commit.ensures.survives (OneIsTooMuch c.args.changes.now) c.commit.result c.commit.ensures.err) in
+    (ready_so (committed_so g.S.Store c.args.conn.now begun c.make_inside.new.tx.conn.now end c.transaction-tx.ensures.begun c.make_inside.ensures.survives
+    (λ clean. c.in_ok-make_inside.ensures.inside clean) c.commit.ensures.survives (OneIsTooMuch c.args.changes.now) c.commit.result c.commit.ensures.err)) in
     record { ends = ends; cause = cause }
 
 pub returns-in_err-make_inside-clause-cause : goal.returns-in_err-make_inside-clause-cause
@@ -37,5 +38,5 @@ returns-in_err-make_inside-clause-cause g c =
     let end = c.drop-tx.new.self.0 in
     let same : end ≡ c.conn-1.given.0 = search rules in
     subst (λ h. TransactionHasItsCause g.S.Store (OneIsTooMuch c.args.changes.now) c.args.conn.now h c.from_residual.result) same
-    (given_up_so g.S.Store c.args.conn.now c.transaction-tx.result.conn.now c.make_inside.new.tx.conn.now end c.transaction-tx.ensures.begun c.make_inside.ensures.survives
-    c.in_err-make_inside.ensures.failed c.drop-tx.ensures.survives c.drop-tx.ensures.undone c.from_residual.result c.from_residual.ensures.1)
+    (ready_so (given_up_so g.S.Store c.args.conn.now c.transaction-tx.result.conn.now c.make_inside.new.tx.conn.now end c.transaction-tx.ensures.begun c.make_inside.ensures.survives
+    c.in_err-make_inside.ensures.failed c.drop-tx.ensures.survives c.drop-tx.ensures.undone c.from_residual.result c.from_residual.ensures.1))

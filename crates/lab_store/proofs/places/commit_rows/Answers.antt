@@ -4,7 +4,8 @@ use Rattle.sqlite.specs.Held.{state}
 use Rattle.lab_store_write.specs.Causes.{IsTooGreat}
 use Rattle.lab_store.specs.Causes.{TransactionHasItsCause}
 use Rattle.lab_store.specs.Commits.{EndsStep}
-use Rattle.lab_store.proofs.Causes.{committed_so, given_up_so}
+use Rattle.lab_store_write.proofs.Transactions.{committed_so, given_up_so}
+use Rattle.lab_store.proofs.Causes.{ready_so}
 use Rattle.lab_store_write_changes.specs.NewbornRows.{AddsRows}
 use Rattle.lab_store.proofs.Commits.{ends_by}
 use Rattle.lab_store.proofs.places.commit_rows.Goals as goal
@@ -22,8 +23,8 @@ returns g c =
           c.commit.ensures.survives c.commit.result (λ clean. on_ok_weaker c.commit.result (λ it. it.1) (c.commit.ensures.ok clean))
           c.commit.ensures.err);
       cause = subst (λ h. TransactionHasItsCause g.S.Store great c.args.conn.now h c.commit.result) same
-          (committed_so g.S.Store c.args.conn.now c.transaction-tx.result.conn.now c.add_inside.new.tx.conn.now end c.transaction-tx.ensures.begun c.add_inside.ensures.survives
-          (λ clean. (c.in_ok-add_inside.ensures.made clean).inside) c.commit.ensures.survives great c.commit.result c.commit.ensures.err);
+          (ready_so (committed_so g.S.Store c.args.conn.now c.transaction-tx.result.conn.now c.add_inside.new.tx.conn.now end c.transaction-tx.ensures.begun c.add_inside.ensures.survives
+          (λ clean. (c.in_ok-add_inside.ensures.made clean).inside) c.commit.ensures.survives great c.commit.result c.commit.ensures.err));
     }
 
 pub returns-in_err-add_inside-clause-cause : goal.returns-in_err-add_inside-clause-cause
@@ -31,5 +32,5 @@ returns-in_err-add_inside-clause-cause g c =
     let end = c.drop-tx.new.self.0 in
     let same : end ≡ c.conn-1.given.0 = search rules in
     subst (λ h. TransactionHasItsCause g.S.Store (IsTooGreat c.args.lab.now.strays) c.args.conn.now h c.from_residual.result) same
-    (given_up_so g.S.Store c.args.conn.now c.transaction-tx.result.conn.now c.add_inside.new.tx.conn.now end c.transaction-tx.ensures.begun c.add_inside.ensures.survives
-    c.in_err-add_inside.ensures.failed c.drop-tx.ensures.survives c.drop-tx.ensures.undone c.from_residual.result c.from_residual.ensures.1)
+    (ready_so (given_up_so g.S.Store c.args.conn.now c.transaction-tx.result.conn.now c.add_inside.new.tx.conn.now end c.transaction-tx.ensures.begun c.add_inside.ensures.survives
+    c.in_err-add_inside.ensures.failed c.drop-tx.ensures.survives c.drop-tx.ensures.undone c.from_residual.result c.from_residual.ensures.1))

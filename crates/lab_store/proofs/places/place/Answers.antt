@@ -1,5 +1,6 @@
 use Rattle.std.proofs.Common.{sym, ◌∙◌}
-use Rattle.lab_store.proofs.Causes.{isnt_memory, told_as}
+use Rattle.lab_store_write.proofs.Transactions.{isnt_memory}
+use Rattle.lab_store.proofs.Causes.{told_as}
 use Rattle.lab_store.proofs.places.place.Goals as goal
 
 pub returns-in-Err-clause-cause : goal.returns-in-Err-clause-cause

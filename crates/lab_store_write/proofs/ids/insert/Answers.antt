@@ -7,5 +7,5 @@ pub returns-clause-ran : goal.returns-clause-ran
 returns-clause-ran g c inside clean = (c.in_ok-run.field-0, c.in_ok-run.ensures.runs inside clean, search rules)
 
 pub returns-in_err-run-clause-failed : goal.returns-in_err-run-clause-failed
-returns-in_err-run-clause-failed g c inside clean =
-    passed (FailsBy g.W.Writable.state c.args.tx.now c.run.new.tx) (ran_badly g.W.Writable.state _ _ c.args.tx.now c.run.new.tx _ (c.in_err-run.ensures.runs inside clean)) c.from_residual.result c.from_residual.ensures.1
+returns-in_err-run-clause-failed g c ours inside clean =
+    passed (FailsBy g.W.Writable.state c.args.tx.now c.run.new.tx) (ran_badly g.W.Writable.state _ _ ours c.args.tx.now c.run.new.tx _ (c.in_err-run.ensures.runs inside clean)) c.from_residual.result c.from_residual.ensures.1

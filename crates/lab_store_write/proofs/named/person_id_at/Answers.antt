@@ -1,5 +1,5 @@
 use Rattle.std.proofs.Common.{filter}
-use Rattle.lab_store_tables.specs.Rows.{Tables, person_id}
+use Rattle.lab_store_tables.specs.Rows.{person_id}
 use Rattle.lab_store_tables.specs.Changes.{is_person}
 use Rattle.lab_store_read.proofs.Queries.{if_then}
 use Rattle.lab_store_write.proofs.Failing.{unnamed_vainly}

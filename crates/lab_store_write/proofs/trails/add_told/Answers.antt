@@ -1,4 +1,5 @@
 use Rattle.std.proofs.Common.{option_map}
+use Rattle.lab_store_write.specs.Givers.{Knows}
 use Rattle.lab_store_write.specs.Ids.{row_id}
 use Rattle.lab_store_write.proofs.Writers.{and_two, fails_so, then_fails, then_third_fails}
 use Rattle.lab_store_write.proofs.TrailAddedLemmas.{told_added}
@@ -16,4 +17,4 @@ returns-in_err-set_trail g c = then_third_fails c.in_ok-person.ensures c.in_ok-i
 pub returns : goal.returns
 returns g c =
     and_two c.in_ok-person.ensures c.in_ok-insert_told.ensures c.in_ok-set_trail.ensures
-    (told_added c.args.lab.id c.args.told.now (option_map row_id c.in_ok-person.person) _ _ _ _)
+    (told_added c.args.lab.id (Knows c.args.lab.id c.args.giver) c.args.told.now (option_map row_id c.in_ok-person.person) c.args.last _ _ _ _)

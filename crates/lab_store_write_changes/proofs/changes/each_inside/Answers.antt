@@ -2,9 +2,10 @@ use Rattle.std.proofs.Common.{◌<◌, length, subst, arith}
 use Rattle.sqlite.specs.State.{HasCleanDisk}
 use Rattle.lab_records_kept.specs.declared.changes.Change.{Change}
 use Rattle.lab_store_laws.specs.Steps.{AppliesWhereKept}
-use Rattle.lab_store_write.specs.Calls.{Steps}
+use Rattle.lab_store_write.specs.Calls.{Steps, MadeFrom}
+use Rattle.lab_store_write.specs.Givers.{Knows}
 use Rattle.lab_store_write.proofs.Writers.{nothing_done, stays_then}
-use Rattle.lab_store_write_changes.proofs.Steps.{none_made, one_more}
+use Rattle.lab_store_write_changes.proofs.KnownSteps.{none_known, one_more_known}
 use Rattle.lab_store_write_changes.proofs.Failures.{one_failed}
 use Rattle.lab_store_write_changes.proofs.changes.each_inside.Goals as goal
 
@@ -12,7 +13,7 @@ pub loop-change-init : goal.loop-change-init
 loop-change-init g c = (
   nothing_done c.args.tx.now,
   λ inside clean. inside,
-  λ inside clean rules. none_made c.args.lab.id (g.W.Writable.state c.args.tx.now) inside,
+  λ spared inside clean rules. none_known c.args.lab.id c.args.giver (g.W.Writable.state c.args.tx.now) inside,
   λ inside clean typed. typed,
 )
 
@@ -28,8 +29,10 @@ loop-change-preserved g c =
     let within : i < length c.args.changes.now = omega (arith, c.loop-change-test.true) in (
       stays_then inv.0 inv.1 did.stays,
       λ inside clean. (did.made (inv.1 inside (early clean)) clean).inside,
-      λ inside clean rules. one_more c.args.lab.id c.args.changes.now i c.change-item.result within old mid new rules (inv.2 inside (early clean) rules)
-          (subst (λ (one : Change). Steps (AppliesWhereKept c.args.lab.id one) mid new) c.change-item.is (did.made (inv.1 inside (early clean)) clean)),
+      λ spared inside clean rules. one_more_known c.args.lab.id c.args.giver c.args.changes.now i c.change-item.result within spared old mid new rules
+          (inv.2 spared inside (early clean) rules)
+          (subst (λ (one : Change). Steps (MadeFrom (Knows c.args.lab.id c.args.giver) (AppliesWhereKept c.args.lab.id one)) mid new) c.change-item.is
+          (did.made (inv.1 inside (early clean)) clean)),
       λ inside clean typed. ((did.made (inv.1 inside (early clean)) clean).made (inv.3 inside (early clean) typed)).0,
     )
 

@@ -1,3 +1,4 @@
+use Rattle.lab_store_write.specs.Givers.{Knows}
 use Rattle.lab_store_write.proofs.Writers.{and_then, fails_so, then_fails}
 use Rattle.lab_store_write_people.proofs.ClosingLemmas.{closes_of}
 use Rattle.lab_store_write_people.proofs.closings.close_sessions.Goals as goal
@@ -10,4 +11,4 @@ returns-in_err-close_meant g c = then_fails c.in_ok-person.ensures c.in_err-clos
 
 pub returns : goal.returns
 returns g c =
-    and_then c.in_ok-person.ensures c.in_ok-close_meant.ensures (closes_of c.args.lab.id c.args.code.now c.args.closing c.in_ok-person.person.id _ _ _)
+    and_then c.in_ok-person.ensures c.in_ok-close_meant.ensures (closes_of c.args.lab.id (Knows c.args.lab.id c.args.giver) c.args.code.now c.args.closing c.in_ok-person.person.id _ _ _)

@@ -1,4 +1,5 @@
 use Rattle.std.proofs.Common.{option_map}
+use Rattle.lab_store_write.specs.Givers.{Knows}
 use Rattle.lab_store_write.specs.Ids.{row_id}
 use Rattle.lab_store_write.proofs.Writers.{and_then, fails_so, then_fails}
 use Rattle.lab_store_write_people.proofs.PersonLemmas.{person_added}
@@ -12,4 +13,4 @@ returns-in_err-insert_person g c = then_fails c.in_ok-asker.ensures c.in_err-ins
 
 pub returns : goal.returns
 returns g c =
-    and_then c.in_ok-asker.ensures c.in_ok-insert_person.ensures (person_added c.args.lab.id c.args.person.now (option_map row_id c.in_ok-asker.asker) _ _ _)
+    and_then c.in_ok-asker.ensures c.in_ok-insert_person.ensures (person_added c.args.lab.id (Knows c.args.lab.id c.args.giver) c.args.person.now (option_map row_id c.in_ok-asker.asker) _ _ _)

@@ -1,3 +1,4 @@
+use Rattle.lab_store_write.specs.Givers.{Knows}
 use Rattle.lab_store_write.proofs.Writers.{and_two, fails_so, then_fails, then_third_fails}
 use Rattle.lab_store_write_people.proofs.Added.{session_added}
 use Rattle.lab_store_write_people.proofs.sessions.add_session.Goals as goal
@@ -14,4 +15,4 @@ returns-in_err-set_sessions g c = then_third_fails c.in_ok-person.ensures c.in_o
 pub returns : goal.returns
 returns g c =
     and_two c.in_ok-person.ensures c.in_ok-insert_session.ensures c.in_ok-set_sessions.ensures
-    (session_added c.args.lab.id c.args.session.now c.in_ok-person.person.id _ _ _ _)
+    (session_added c.args.lab.id (Knows c.args.lab.id c.args.giver) c.args.session.now c.in_ok-person.person.id _ _ _ _)

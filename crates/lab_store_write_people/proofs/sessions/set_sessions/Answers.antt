@@ -4,7 +4,7 @@ use Rattle.sqlite.specs.Values.{bound}
 use Rattle.lab_store_tables.specs.Rows.{LabRow, number}
 use Rattle.lab_store_tables.specs.Changes.{in_lab}
 use Rattle.lab_store_write.proofs.Writers.{wrote}
-use Rattle.lab_store_write.proofs.LabWrites.{sessions_text, sets_sessions}
+use Rattle.lab_store_write.proofs.LabWrites.{sessions_ours, sessions_text, sets_sessions}
 use Rattle.lab_store_write_people.proofs.sessions.set_sessions.Goals as goal
 
 pub returns : goal.returns
@@ -13,5 +13,5 @@ returns g c =
     let new = g.W.Writable.state c.run.new.tx in
     let lab = c.args.lab.id in
     let given : bound (c.id_value.result ∷ c.ordinal_value.result ∷ []) ≡ Int lab ∷ number c.args.count ∷ [] = λ i. c.id_value.ensures i ∷ c.ordinal_value.ensures i ∷ [] in
-    wrote sessions_text (Int lab ∷ number c.args.count ∷ []) (in_lab lab (λ (one : LabRow). record one { sessions = c.args.count })) c.run.ensures.stays given c.run.ensures.runs
+    wrote sessions_text (Int lab ∷ number c.args.count ∷ []) (sessions_ours lab c.args.count) (in_lab lab (λ (one : LabRow). record one { sessions = c.args.count })) c.run.ensures.stays given c.run.ensures.runs
     (λ count. sets_sessions lab c.args.count old new count)

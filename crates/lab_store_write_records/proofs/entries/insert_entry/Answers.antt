@@ -6,7 +6,7 @@ use Rattle.lab_store_tables.specs.Rows.{entry_id}
 use Rattle.lab_store_tables.specs.Ready.{tables_of}
 use Rattle.lab_store_write.proofs.Writers.{wrote}
 use Rattle.lab_store_write_records.specs.EntriesAdded.{entry_at, with_entry}
-use Rattle.lab_store_write_records.proofs.EntryWrites.{add_entry_text, entry_values, adds_entry}
+use Rattle.lab_store_write_records.proofs.EntryWrites.{add_entry_ours, add_entry_text, entry_values, adds_entry}
 use Rattle.lab_store_write_records.proofs.entries.insert_entry.Goals as goal
 
 pub returns : goal.returns
@@ -19,5 +19,5 @@ returns g c =
     ∷ (c.text_value.ensures ∙ ap Text c.as_str-key.ensures.value) i ∷ (c.text_value-2.ensures ∙ ap Text c.as_str-value.ensures.value) i
     ∷ (c.text_value-3.ensures ∙ ap Text c.as_str-unit.ensures.value) i ∷ c.id_value-2.ensures i ∷ c.moment_value.ensures i ∷ c.note_or_null.ensures i
     ∷ [] in
-    wrote add_entry_text (entry_values row) (with_entry c.args.version.id c.args.place c.args.person.id c.args.entry.now) c.run.ensures.stays given c.run.ensures.runs
+    wrote add_entry_text (entry_values row) (add_entry_ours row) (with_entry c.args.version.id c.args.place c.args.person.id c.args.entry.now) c.run.ensures.stays given c.run.ensures.runs
     (λ count typed did. adds_entry row old new count typed refl did)

@@ -6,7 +6,7 @@ use Rattle.lab_store_tables.specs.Rows.{choice_id}
 use Rattle.lab_store_tables.specs.Ready.{tables_of}
 use Rattle.lab_store_write.proofs.Writers.{wrote}
 use Rattle.lab_store_write_records.specs.FormsAdded.{choice_at, with_choice}
-use Rattle.lab_store_write_records.proofs.FormWrites.{add_choice_text, choice_values, adds_choice}
+use Rattle.lab_store_write_records.proofs.FormWrites.{add_choice_ours, add_choice_text, choice_values, adds_choice}
 use Rattle.lab_store_write_records.proofs.forms.insert_choice.Goals as goal
 
 pub returns : goal.returns
@@ -16,5 +16,5 @@ returns g c =
     let row = choice_at c.args.field.id (next_key choice_id (tables_of old).choices) c.args.place c.args.name.now in
     let given : bound (c.id_value.result ∷ c.place_value.result ∷ c.text_value.result ∷ []) ≡ choice_values row = λ i. c.id_value.ensures i ∷ c.place_value.ensures i
     ∷ (c.text_value.ensures ∙ ap Text c.as_str.ensures.value) i ∷ [] in
-    wrote add_choice_text (choice_values row) (with_choice c.args.field.id c.args.place c.args.name.now) c.run.ensures.stays given c.run.ensures.runs
+    wrote add_choice_text (choice_values row) (add_choice_ours row) (with_choice c.args.field.id c.args.place c.args.name.now) c.run.ensures.stays given c.run.ensures.runs
     (λ count typed did. adds_choice row old new count typed refl did)

@@ -6,7 +6,7 @@ use Rattle.lab_store_tables.specs.Ready.{tables_of}
 use Rattle.lab_store_write.proofs.Placed.{placed}
 use Rattle.lab_store_tables.specs.Rows.{Tables, field_id}
 use Rattle.lab_store_write_records.specs.FormsAdded.{field_at, with_field}
-use Rattle.lab_store_write_records.proofs.FormWrites.{add_field_text, field_values, adds_field, ids_field}
+use Rattle.lab_store_write_records.proofs.FormWrites.{add_field_ours, add_field_text, field_values, adds_field, ids_field}
 use Rattle.lab_store_write_records.proofs.forms.insert_field.Goals as goal
 
 pub returns : goal.returns
@@ -21,5 +21,5 @@ returns g c =
     ∷ (c.text_value-2.ensures ∙ ap Text c.as_str-label.ensures.value) i ∷ c.flag_value.ensures i
     ∷ (c.text_value-3.ensures ∙ ap Text c.kind_word-word.ensures) i ∷ c.unit_or_null.ensures i ∷ c.decimals_or_null.ensures i ∷ c.low_or_null.ensures i
     ∷ c.high_or_null.ensures i ∷ c.size_or_null.ensures i ∷ [] in
-    placed add_field_text (field_values row) (with_field c.args.form.id c.args.place field) (λ (t : Tables). next_key field_id t.fields)
+    placed add_field_text (field_values row) (add_field_ours row) (with_field c.args.form.id c.args.place field) (λ (t : Tables). next_key field_id t.fields)
     c.insert.ensures.stays given c.insert.ensures.ran (λ count typed did. (adds_field row old new count typed refl did, ids_field row old new count typed did)) c.insert.ensures.failed

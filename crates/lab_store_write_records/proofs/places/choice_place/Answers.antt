@@ -5,12 +5,12 @@ use Rattle.lab_store_tables.specs.Rows.{ChoiceRow, Tables}
 use Rattle.lab_store_write.proofs.Writers.{place_found}
 use Rattle.lab_store_write_records.specs.FieldsShown.{is_choice_of}
 use Rattle.lab_store_write_records.proofs.FieldsShownWords.{choices_shown}
-use Rattle.lab_store_write_records.proofs.FormKeyLemmas.{choices_means, choices_read}
+use Rattle.lab_store_write_records.proofs.FormKeyLemmas.{choices_means, choices_ours, choices_read}
 use Rattle.lab_store_write_records.proofs.places.choice_place.Goals as goal
 
 pub returns-clause-counts : goal.returns-clause-counts
 returns-clause-counts g c =
     let parent = c.args.parent.id in
     let rows = λ (t : Tables). filter (is_choice_of parent) t.choices in
-    place_found choices_means.read (choices_shown parent) (λ t. length (rows t)) c.place_below.ensures.counts (λ found. choices_read _ _ parent found)
+    place_found choices_means.read (choices_ours parent) (choices_shown parent) (λ t. length (rows t)) c.place_below.ensures.counts (λ found. choices_read _ _ parent found)
     (λ t. length-map (rows t) (λ (one : ChoiceRow). Int one.id ∷ []))

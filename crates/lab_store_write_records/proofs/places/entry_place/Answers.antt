@@ -5,12 +5,12 @@ use Rattle.lab_store_tables.specs.Rows.{EntryRow, Tables}
 use Rattle.lab_store_write.proofs.Writers.{place_found}
 use Rattle.lab_store_write_records.specs.VersionsShown.{is_entry_of}
 use Rattle.lab_store_write_records.proofs.VersionsShownWords.{entries_shown}
-use Rattle.lab_store_write_records.proofs.EntryKeyLemmas.{entries_means, entries_read}
+use Rattle.lab_store_write_records.proofs.EntryKeyLemmas.{entries_means, entries_ours, entries_read}
 use Rattle.lab_store_write_records.proofs.places.entry_place.Goals as goal
 
 pub returns-clause-counts : goal.returns-clause-counts
 returns-clause-counts g c =
     let parent = c.args.parent.id in
     let rows = λ (t : Tables). filter (is_entry_of parent) t.entries in
-    place_found entries_means.read (entries_shown parent) (λ t. length (rows t)) c.place_below.ensures.counts (λ found. entries_read _ _ parent found)
+    place_found entries_means.read (entries_ours parent) (entries_shown parent) (λ t. length (rows t)) c.place_below.ensures.counts (λ found. entries_read _ _ parent found)
     (λ t. length-map (rows t) (λ (one : EntryRow). Int one.id ∷ []))

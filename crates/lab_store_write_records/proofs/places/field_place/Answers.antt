@@ -5,12 +5,12 @@ use Rattle.lab_store_tables.specs.Rows.{FieldRow, Tables}
 use Rattle.lab_store_write.proofs.Writers.{place_found}
 use Rattle.lab_store_write_records.specs.FieldsShown.{is_field_of}
 use Rattle.lab_store_write_records.proofs.FieldsShownWords.{fields_shown}
-use Rattle.lab_store_write_records.proofs.FormKeyLemmas.{fields_means, fields_read}
+use Rattle.lab_store_write_records.proofs.FormKeyLemmas.{fields_means, fields_ours, fields_read}
 use Rattle.lab_store_write_records.proofs.places.field_place.Goals as goal
 
 pub returns-clause-counts : goal.returns-clause-counts
 returns-clause-counts g c =
     let parent = c.args.parent.id in
     let rows = λ (t : Tables). filter (is_field_of parent) t.fields in
-    place_found fields_means.read (fields_shown parent) (λ t. length (rows t)) c.place_below.ensures.counts (λ found. fields_read _ _ parent found)
+    place_found fields_means.read (fields_ours parent) (fields_shown parent) (λ t. length (rows t)) c.place_below.ensures.counts (λ found. fields_read _ _ parent found)
     (λ t. length-map (rows t) (λ (one : FieldRow). Int one.id ∷ []))

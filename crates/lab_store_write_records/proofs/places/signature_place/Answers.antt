@@ -5,12 +5,12 @@ use Rattle.lab_store_tables.specs.Rows.{SignatureRow, Tables}
 use Rattle.lab_store_write.proofs.Writers.{place_found}
 use Rattle.lab_store_write_records.specs.VersionsShown.{is_signature_of}
 use Rattle.lab_store_write_records.proofs.VersionsShownWords.{signatures_shown}
-use Rattle.lab_store_write_records.proofs.EntryKeyLemmas.{signatures_means, signatures_read}
+use Rattle.lab_store_write_records.proofs.EntryKeyLemmas.{signatures_means, signatures_ours, signatures_read}
 use Rattle.lab_store_write_records.proofs.places.signature_place.Goals as goal
 
 pub returns-clause-counts : goal.returns-clause-counts
 returns-clause-counts g c =
     let parent = c.args.parent.id in
     let rows = λ (t : Tables). filter (is_signature_of parent) t.signatures in
-    place_found signatures_means.read (signatures_shown parent) (λ t. length (rows t)) c.place_below.ensures.counts (λ found. signatures_read _ _ parent found)
+    place_found signatures_means.read (signatures_ours parent) (signatures_shown parent) (λ t. length (rows t)) c.place_below.ensures.counts (λ found. signatures_read _ _ parent found)
     (λ t. length-map (rows t) (λ (one : SignatureRow). Int one.id ∷ []))

@@ -8,7 +8,7 @@ use Rattle.lab_store_tables.specs.Rows.{Tables, number, record_id}
 use Rattle.lab_records_kept.specs.declared.records.Version.{Version}
 use Rattle.lab_store_tables.specs.Changes.{record_row_of}
 use Rattle.lab_store_write_records.specs.RecordsAdded.{with_record}
-use Rattle.lab_store_write_records.proofs.RecordWrites.{add_record_text, record_values, adds_record, ids_record}
+use Rattle.lab_store_write_records.proofs.RecordWrites.{add_record_ours, add_record_text, record_values, adds_record, ids_record}
 use Rattle.lab_store_write_records.proofs.records.insert_record.Goals as goal
 
 pub returns : goal.returns
@@ -21,5 +21,5 @@ returns g c =
     ∷ c.place_value.result ∷ []) ≡ record_values row = λ i. c.id_value.ensures i ∷ c.ordinal_value.ensures i ∷ c.id_value-2.ensures i
     ∷ (c.text_value.ensures ∙ ap Text c.as_str-code.ensures.value) i ∷ (c.text_value-2.ensures ∙ ap Text c.as_str-sample.ensures.value) i
     ∷ (c.place_value.ensures ∙ ap (λ (versions : List Version). number (length versions)) c.as_slice-versions.ensures) i ∷ [] in
-    placed add_record_text (record_values row) (with_record c.args.lab.id c.args.form.id kept) (λ (t : Tables). next_key record_id t.records)
+    placed add_record_text (record_values row) (add_record_ours row) (with_record c.args.lab.id c.args.form.id kept) (λ (t : Tables). next_key record_id t.records)
     c.insert.ensures.stays given c.insert.ensures.ran (λ count typed did. (adds_record row old new count typed refl did, ids_record row old new count typed did)) c.insert.ensures.failed

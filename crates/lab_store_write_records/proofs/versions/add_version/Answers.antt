@@ -1,6 +1,7 @@
 use Rattle.std.proofs.Common.{subst}
 use Rattle.lab_store_tables.specs.Changes.{InTurn, AddsEntry, AddsSignature}
 use Rattle.lab_store_write.specs.Calls.{Steps}
+use Rattle.lab_store_write.specs.Givers.{EachKnowing}
 use Rattle.lab_store_write.proofs.Writers.{and_three, fails_so, then_fails, then_fourth_fails, then_third_fails}
 use Rattle.lab_store_write_records.proofs.RecordsInTurn.{version_added}
 use Rattle.lab_store_write_records.proofs.versions.add_version.Goals as goal
@@ -23,6 +24,6 @@ returns g c =
     let four = g.W.Writable.state c.add_entries.new.tx in
     let five = g.W.Writable.state c.add_signatures.new.tx in
     and_three c.in_ok-opener.ensures c.in_ok-id.ensures c.in_ok-add_entries.ensures c.in_ok-add_signatures.ensures (λ found placed entered signed.
-    version_added c.args.lab.id c.args.kept.id c.args.version.now c.in_ok-opener.opener.id c.in_ok-id.id.id _ _ _ _ _ found placed
-    (subst (λ rows. Steps (InTurn (AddsEntry c.args.lab.id c.in_ok-id.id.id) rows) three four) c.rows.ensures entered)
-    (subst (λ signatures. Steps (InTurn (AddsSignature c.args.lab.id c.in_ok-id.id.id) signatures) four five) c.as_slice.ensures signed))
+    version_added c.args.lab.id c.args.giver c.args.kept.id c.args.version.now c.in_ok-opener.opener.id c.in_ok-id.id.id _ _ _ _ _ found placed
+    (subst (λ rows. Steps (InTurn (EachKnowing c.args.lab.id c.args.giver (AddsEntry c.args.lab.id c.in_ok-id.id.id)) rows) three four) c.rows.ensures entered)
+    (subst (λ signatures. Steps (InTurn (EachKnowing c.args.lab.id c.args.giver (AddsSignature c.args.lab.id c.in_ok-id.id.id)) signatures) four five) c.as_slice.ensures signed))

@@ -9,7 +9,7 @@ use Rattle.lab_store_tables.specs.Rows.{Tables, number, optional, version_id}
 use Rattle.lab_store_tables.specs.Changes.{version_row_of}
 use Rattle.lab_store_write_records.specs.Texts.{amendment_reason}
 use Rattle.lab_store_write_records.specs.RecordsAdded.{with_version}
-use Rattle.lab_store_write_records.proofs.RecordWrites.{add_version_text, version_values, adds_version, ids_version}
+use Rattle.lab_store_write_records.proofs.RecordWrites.{add_version_ours, add_version_text, version_values, adds_version, ids_version}
 use Rattle.lab_store_write_records.proofs.versions.insert_version.Goals as goal
 
 pub returns : goal.returns
@@ -23,5 +23,5 @@ returns g c =
     ∷ c.cause_or_null.result ∷ []) ≡ version_values row = λ i. c.id_value.ensures i ∷ (c.ordinal_value.ensures ∙ ap number c.number-number.ensures) i
     ∷ (c.small_value.ensures ∙ ap number c.format_number-format.ensures) i ∷ c.id_value-2.ensures i ∷ c.moment_value.ensures i
     ∷ (c.cause_or_null.ensures ∙ ap cause c.amendment.ensures.value) i ∷ [] in
-    placed add_version_text (version_values row) (with_version c.args.kept.id c.args.opener.id version) (λ (t : Tables). next_key version_id t.versions)
+    placed add_version_text (version_values row) (add_version_ours row) (with_version c.args.kept.id c.args.opener.id version) (λ (t : Tables). next_key version_id t.versions)
     c.insert.ensures.stays given c.insert.ensures.ran (λ count typed did. (adds_version row old new count typed refl did, ids_version row old new count typed did)) c.insert.ensures.failed

@@ -1,6 +1,7 @@
 use Rattle.std.proofs.Common.{subst}
 use Rattle.lab_store_tables.specs.Changes.{set_current}
 use Rattle.lab_store_write.specs.Calls.{Steps, Becomes}
+use Rattle.lab_store_write.specs.Givers.{Knows}
 use Rattle.lab_store_write.proofs.Writers.{and_two, fails_so, then_fails, then_third_fails}
 use Rattle.lab_store_write_records.proofs.RecordsInTurn.{version_opened}
 use Rattle.lab_store_write_records.proofs.versions.open_version.Goals as goal
@@ -19,5 +20,5 @@ returns g c =
     let three = g.W.Writable.state c.add_version.new.tx in
     let four = g.W.Writable.state c.set_current.new.tx in
     and_two c.in_ok-kept.ensures c.in_ok-add_version.ensures c.in_ok-set_current.ensures (λ found added set.
-    version_opened c.args.lab.id c.args.wanted c.args.version.now c.in_ok-kept.kept.id _ _ _ _ found added
+    version_opened c.args.lab.id (Knows c.args.lab.id c.args.giver) c.args.wanted c.args.version.now c.in_ok-kept.kept.id _ _ _ _ found added
     (subst (λ number. Steps (Becomes (set_current c.in_ok-kept.kept.id number)) three four) c.number.ensures set))

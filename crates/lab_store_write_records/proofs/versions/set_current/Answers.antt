@@ -4,7 +4,7 @@ use Rattle.sqlite.specs.Values.{bound}
 use Rattle.lab_store_tables.specs.Rows.{number}
 use Rattle.lab_store_tables.specs.Changes.{set_current}
 use Rattle.lab_store_write.proofs.Writers.{wrote}
-use Rattle.lab_store_write_records.proofs.RecordWrites.{current_text, sets_current}
+use Rattle.lab_store_write_records.proofs.RecordWrites.{current_ours, current_text, sets_current}
 use Rattle.lab_store_write_records.proofs.versions.set_current.Goals as goal
 
 pub returns : goal.returns
@@ -13,5 +13,5 @@ returns g c =
     let new = g.W.Writable.state c.run.new.tx in
     let given : bound (c.id_value.result ∷ c.ordinal_value.result ∷ []) ≡ Int c.args.kept.id ∷ number c.args.version ∷ [] = λ i. c.id_value.ensures i
     ∷ c.ordinal_value.ensures i ∷ [] in
-    wrote current_text (Int c.args.kept.id ∷ number c.args.version ∷ []) (set_current c.args.kept.id c.args.version) c.run.ensures.stays given c.run.ensures.runs
+    wrote current_text (Int c.args.kept.id ∷ number c.args.version ∷ []) (current_ours c.args.kept.id c.args.version) (set_current c.args.kept.id c.args.version) c.run.ensures.stays given c.run.ensures.runs
     (λ count. sets_current c.args.kept.id c.args.version old new count)

@@ -1,10 +1,13 @@
-use Rattle.std.proofs.Common.{◌≡◌, ◌∙◌, [], Ok, Err}
+use Rattle.std.proofs.Common.{rules, ◌≡◌, ◌∙◌, [], Ok, Err}
+use Rattle.std.proofs.lemmas.Result.{err_from_is_err_and}
 use Rattle.sqlite.specs.Held.{state}
 use Rattle.lab_records_keeper.specs.Worlds.{Changes}
-use Rattle.lab_store_tables.specs.Ready.{tables_of}
+use Rattle.lab_store_tables.specs.Ready.{IsReady, tables_of}
 use Rattle.lab_store_laws.specs.Steps.{AreMadeIfAny}
 use Rattle.lab_store_load.proofs.Counting.{counted_or_none, open_or_none}
 use Rattle.sqlite.specs.State.{HasCleanDisk, IsUnchanged}
+use Rattle.lab_store.specs.Commits.{EndsStep}
+use Rattle.lab_store.proofs.Blames.{commit_blamed}
 use Rattle.lab_store.proofs.After.{keeping_as, keeps_none}
 use Rattle.lab_store.proofs.Settled.{durable_now}
 use Rattle.lab_store.proofs.Committed.{crashes, stays_safe, made_means, reached}
@@ -12,83 +15,85 @@ use Rattle.lab_store.proofs.Applied.{changes_as, changes_law, ends_given}
 use Rattle.lab_store.proofs.Turns.{world_shuts}
 use Rattle.lab_store.proofs.store.StoreKeeper.apply.Goals as goal
 
-pub returns-in_err-apply-clause-crash : goal.returns-in_err-apply-clause-crash
-returns-in_err-apply-clause-crash g c fit clean ready =
-    let old = state g.S.Store c.args.self.now in
-    let code = c.args.code.now in
-    let changes = c.args.changes in
-    let ends = ends_given g.S.Store code c.as_slice.result.now changes c.self.inside.tables.conn c.args.self.now (state g.S.Store c.apply.new.tables.conn) _ c.as_slice.ensures c.self.view_is c.in_err-apply.ensures.ends ready in
-    crashes (AreMadeIfAny code changes) (Changes code changes) old (state g.S.Store c.apply.new.tables.conn) ready (changes_law code changes (tables_of old) fit) (Err c.in_err-apply.field-0.0)
-    ends (changes_as code changes) clean
-
-pub returns-in_err-apply-clause-safe : goal.returns-in_err-apply-clause-safe
-returns-in_err-apply-clause-safe g c fit clean ready =
-    let old = state g.S.Store c.args.self.now in
-    let code = c.args.code.now in
-    let changes = c.args.changes in
-    let ends = ends_given g.S.Store code c.as_slice.result.now changes c.self.inside.tables.conn c.args.self.now (state g.S.Store c.apply.new.tables.conn) _ c.as_slice.ensures c.self.view_is c.in_err-apply.ensures.ends ready in
-    stays_safe (AreMadeIfAny code changes) (Changes code changes) old (state g.S.Store c.apply.new.tables.conn) ready (changes_law code changes (tables_of old) fit) (Err c.in_err-apply.field-0.0)
-    ends clean
-
-pub returns-clause-changed : goal.returns-clause-changed
-returns-clause-changed g c fit clean ready =
-    let old = state g.S.Store c.args.self.now in
-    let code = c.args.code.now in
-    let changes = c.args.changes in
-    let ends = ends_given g.S.Store code c.as_slice.result.now changes c.self.inside.tables.conn c.args.self.now (state g.S.Store c.apply.new.tables.conn) _ c.as_slice.ensures c.self.view_is c.in_ok-apply.ensures.ends ready in
-    made_means (AreMadeIfAny code changes) (Changes code changes) old (state g.S.Store c.apply.new.tables.conn) ready (changes_law code changes (tables_of old) fit) (Ok c.in_ok-apply.field-0)
-    ends clean
-
-pub returns-clause-crash : goal.returns-clause-crash
-returns-clause-crash g c fit clean ready =
-    let old = state g.S.Store c.args.self.now in
-    let code = c.args.code.now in
-    let changes = c.args.changes in
-    let ends = ends_given g.S.Store code c.as_slice.result.now changes c.self.inside.tables.conn c.args.self.now (state g.S.Store c.apply.new.tables.conn) _ c.as_slice.ensures c.self.view_is c.in_ok-apply.ensures.ends ready in
-    crashes (AreMadeIfAny code changes) (Changes code changes) old (state g.S.Store c.apply.new.tables.conn) ready (changes_law code changes (tables_of old) fit) (Ok c.in_ok-apply.field-0)
-    ends (changes_as code changes) clean
-
-pub returns-clause-safe : goal.returns-clause-safe
-returns-clause-safe g c fit clean ready =
-    let old = state g.S.Store c.args.self.now in
-    let code = c.args.code.now in
-    let changes = c.args.changes in
-    let ends = ends_given g.S.Store code c.as_slice.result.now changes c.self.inside.tables.conn c.args.self.now (state g.S.Store c.apply.new.tables.conn) _ c.as_slice.ensures c.self.view_is c.in_ok-apply.ensures.ends ready in
-    stays_safe (AreMadeIfAny code changes) (Changes code changes) old (state g.S.Store c.apply.new.tables.conn) ready (changes_law code changes (tables_of old) fit) (Ok c.in_ok-apply.field-0)
-    ends clean
-
-pub returns-clause-durable : goal.returns-clause-durable
-returns-clause-durable g c fit some clean ready =
+pub returns-in_err-apply-clause-applies : goal.returns-in_err-apply-clause-applies
+returns-in_err-apply-clause-applies g c =
     let old = state g.S.Store c.args.self.now in
     let new = state g.S.Store c.apply.new.tables.conn in
     let code = c.args.code.now in
     let changes = c.args.changes in
-    let ends = ends_given g.S.Store code c.as_slice.result.now changes c.self.inside.tables.conn c.args.self.now (state g.S.Store c.apply.new.tables.conn) _ c.as_slice.ensures c.self.view_is c.in_ok-apply.ensures.ends ready in
-    durable_now g.S.Store g.met.S.Store.stays g.met.S.Store.settled c.apply.new.tables.conn
-    (reached (AreMadeIfAny code changes) (Changes code changes) old new ready (changes_law code changes (tables_of old) fit) (Ok c.in_ok-apply.field-0) ends) clean (ends.made clean).1
+    let steps = AreMadeIfAny code changes in
+    let means = Changes code changes in
+    let ended : IsReady old → EndsStep steps (Err c.in_err-apply.field-0.0) old new =
+    ends_given g.S.Store code c.as_slice.result.now changes c.self.inside.tables.conn
+    c.args.self.now new _ c.as_slice.ensures c.self.view_is c.in_err-apply.ensures.ends in
+    record {
+      makes = λ fit clean ready.
+          let law = changes_law code changes (tables_of old) fit in
+          let ends = ended ready in
+          record {
+            changed = search rules;
+            rows = search rules;
+            crash = crashes steps means old new ready law (Err c.in_err-apply.field-0.0) ends (changes_as code changes)
+                clean;
+            safe = stays_safe steps means old new ready law (Err c.in_err-apply.field-0.0) ends clean;
+            durable = search rules;
+            reached = reached steps means old new ready law (Err c.in_err-apply.field-0.0) ends;
+          };
+      ends = record {
+        err = search rules;
+        rows_err = search rules;
+        lives = search rules;
+        fault = search rules;
+        shuts = λ clean ready. world_shuts old new clean (ended ready).shuts;
+        passes = search rules;
+      };
+      quiet = search rules;
+      reached_err = search rules;
+    }
 
-pub returns-clause-reached : goal.returns-clause-reached
-returns-clause-reached g c fit clean ready =
+pub returns-clause-applies : goal.returns-clause-applies
+returns-clause-applies g c =
     let old = state g.S.Store c.args.self.now in
+    let new = state g.S.Store c.apply.new.tables.conn in
     let code = c.args.code.now in
     let changes = c.args.changes in
-    let ends = ends_given g.S.Store code c.as_slice.result.now changes c.self.inside.tables.conn c.args.self.now (state g.S.Store c.apply.new.tables.conn) _ c.as_slice.ensures c.self.view_is c.in_ok-apply.ensures.ends ready in
-    reached (AreMadeIfAny code changes) (Changes code changes) old (state g.S.Store c.apply.new.tables.conn) ready (changes_law code changes (tables_of old) fit) (Ok c.in_ok-apply.field-0)
-    ends
+    let steps = AreMadeIfAny code changes in
+    let means = Changes code changes in
+    let ended : IsReady old → EndsStep steps (Ok c.in_ok-apply.field-0) old new =
+    ends_given g.S.Store code c.as_slice.result.now changes c.self.inside.tables.conn
+    c.args.self.now new _ c.as_slice.ensures c.self.view_is c.in_ok-apply.ensures.ends in
+    record {
+      makes = λ fit clean ready.
+          let law = changes_law code changes (tables_of old) fit in
+          let ends = ended ready in
+          record {
+            changed = made_means steps means old new ready law (Ok c.in_ok-apply.field-0) ends clean;
+            rows = search rules;
+            crash = crashes steps means old new ready law (Ok c.in_ok-apply.field-0) ends (changes_as code changes)
+                clean;
+            safe = stays_safe steps means old new ready law (Ok c.in_ok-apply.field-0) ends clean;
+            durable = λ some. durable_now g.S.Store g.met.S.Store.stays g.met.S.Store.settled c.apply.new.tables.conn (reached steps means old new ready law (Ok c.in_ok-apply.field-0) ends) clean (ends.made clean).1;
+            reached = reached steps means old new ready law (Ok c.in_ok-apply.field-0) ends;
+          };
+      ends = record {
+        err = search rules;
+        rows_err = search rules;
+        lives = search rules;
+        fault = search rules;
+        shuts = λ clean ready. world_shuts old new clean (ended ready).shuts;
+        passes = search rules;
+      };
+      quiet = search rules;
+      reached_err = search rules;
+    }
 
-pub returns-in_err-apply-clause-shuts : goal.returns-in_err-apply-clause-shuts
-returns-in_err-apply-clause-shuts g c clean ready =
-    let code = c.args.code.now in
-    let changes = c.args.changes in
-    let ends = ends_given g.S.Store code c.as_slice.result.now changes c.self.inside.tables.conn c.args.self.now (state g.S.Store c.apply.new.tables.conn) _ c.as_slice.ensures c.self.view_is c.in_err-apply.ensures.ends ready in
-    world_shuts (state g.S.Store c.args.self.now) (state g.S.Store c.apply.new.tables.conn) clean ends.shuts
-
-pub returns-clause-shuts : goal.returns-clause-shuts
-returns-clause-shuts g c clean ready =
-    let code = c.args.code.now in
-    let changes = c.args.changes in
-    let ends = ends_given g.S.Store code c.as_slice.result.now changes c.self.inside.tables.conn c.args.self.now (state g.S.Store c.apply.new.tables.conn) _ c.as_slice.ensures c.self.view_is c.in_ok-apply.ensures.ends ready in
-    world_shuts (state g.S.Store c.args.self.now) (state g.S.Store c.apply.new.tables.conn) clean ends.shuts
+pub returns-in_err-apply-clause-cause : goal.returns-in_err-apply-clause-cause
+returns-in_err-apply-clause-cause g c =
+    let failed = err_from_is_err_and c.from_residual.result c.from_residual.ensures.1 in
+    rw (failed.1, failed.2) (
+    commit_blamed g.S.Store c.apply.new.tables.conn c.self.inside.tables.conn c.args.self.now
+    c.args.code.now c.as_slice.result.now c.args.changes (Err c.in_err-apply.field-0.0)
+    c.as_slice.ensures c.self.view_is c.in_err-apply.ensures.cause)
 
 pub invariant_of-self : goal.invariant_of-self
 invariant_of-self g c = keeps_none _ _ c.take-counted.ensures.after c.in_err-apply.ensures.at_rest

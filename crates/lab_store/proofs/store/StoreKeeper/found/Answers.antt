@@ -1,4 +1,4 @@
-use Rattle.std.proofs.Common.{◌≡◌, ℕ, List, Ok, Err, Result, IfErr, refl, subst}
+use Rattle.std.proofs.Common.{rules, ◌≡◌, ℕ, List, Ok, Err, Result, IfErr, refl, subst}
 use Rattle.std.specs.Option.{IsSome}
 use Rattle.sqlite_trees.specs.declared.store.Store.{Ghosts}
 use Rattle.sqlite.specs.State.{State}
@@ -10,6 +10,8 @@ use Rattle.lab_records_keeper.specs.Worlds.{Given, Places, PlacingFaultFits}
 use Rattle.lab_store_tables.specs.Meaning.{meaning}
 use Rattle.lab_store_tables.specs.Ready.{IsReady, tables_of}
 use Rattle.lab_store.specs.StoreWorlds.{world_of}
+use Rattle.lab_store.specs.Commits.{EndsStep}
+use Rattle.lab_store.proofs.Blames.{newborn_blamed}
 use Rattle.lab_store.specs.Founding.{IsPlacedBy, IsTaken}
 use Rattle.lab_store.proofs.Settled.{durable_now}
 use Rattle.lab_store.proofs.Committed.{crashes, stays_safe, made_means, reached, on_lives}
@@ -27,55 +29,44 @@ taken_alone g code inside self new (Err LabExists) same taken =
 taken_alone g code inside self new (Err NotStored) same taken = tt
 taken_alone g code inside self new (Err NoMemory) same taken = tt
 
-pub returns-clause-fault : goal.returns-clause-fault
-returns-clause-fault g c =
-    taken_alone g.S.Store c.args.newborn.code c.self.inside.tables.conn c.args.self.now (state g.S.Store c.found.new.tables.conn) c.found.result c.self.view_is
-    c.found.ensures.exists
-
-pub returns-clause-founded : goal.returns-clause-founded
-returns-clause-founded g c clean ready =
-    let old = state g.S.Store c.args.self.now in
-    let newborn = c.args.newborn in
-    let ends = founding_given g.S.Store newborn c.self.inside.tables.conn c.args.self.now (state g.S.Store c.found.new.tables.conn) c.found.result c.self.view_is c.found.ensures.ends ready in
-    made_means (IsPlacedBy newborn) (Places (newborn_lab newborn)) old (state g.S.Store c.found.new.tables.conn) ready (founding_law newborn (tables_of old)) c.found.result ends clean
-
-pub returns-clause-crash : goal.returns-clause-crash
-returns-clause-crash g c clean ready =
-    let old = state g.S.Store c.args.self.now in
-    let newborn = c.args.newborn in
-    let ends = founding_given g.S.Store newborn c.self.inside.tables.conn c.args.self.now (state g.S.Store c.found.new.tables.conn) c.found.result c.self.view_is c.found.ensures.ends ready in
-    crashes (IsPlacedBy newborn) (Places (newborn_lab newborn)) old (state g.S.Store c.found.new.tables.conn) ready (founding_law newborn (tables_of old)) c.found.result ends
-    (places_as (newborn_lab newborn)) clean
-
-pub returns-clause-safe : goal.returns-clause-safe
-returns-clause-safe g c clean ready =
-    let old = state g.S.Store c.args.self.now in
-    let newborn = c.args.newborn in
-    let ends = founding_given g.S.Store newborn c.self.inside.tables.conn c.args.self.now (state g.S.Store c.found.new.tables.conn) c.found.result c.self.view_is c.found.ensures.ends ready in
-    stays_safe (IsPlacedBy newborn) (Places (newborn_lab newborn)) old (state g.S.Store c.found.new.tables.conn) ready (founding_law newborn (tables_of old)) c.found.result ends clean
-
-pub returns-clause-durable : goal.returns-clause-durable
-returns-clause-durable g c clean ready =
+pub returns-clause-founds : goal.returns-clause-founds
+returns-clause-founds g c =
     let old = state g.S.Store c.args.self.now in
     let new = state g.S.Store c.found.new.tables.conn in
     let newborn = c.args.newborn in
-    let ends = founding_given g.S.Store newborn c.self.inside.tables.conn c.args.self.now (state g.S.Store c.found.new.tables.conn) c.found.result c.self.view_is c.found.ensures.ends ready in
-    on_lives (IsPlacedBy newborn) old new c.found.result ends clean
-    (λ opened. durable_now g.S.Store g.met.S.Store.stays g.met.S.Store.settled c.found.new.tables.conn
-    (reached (IsPlacedBy newborn) (Places (newborn_lab newborn)) old new ready (founding_law newborn (tables_of old)) c.found.result ends) clean opened)
+    let steps = IsPlacedBy newborn in
+    let means = Places (newborn_lab newborn) in
+    let law = founding_law newborn (tables_of old) in
+    let ended : IsReady old → EndsStep steps c.found.result old new =
+    founding_given g.S.Store newborn c.self.inside.tables.conn c.args.self.now new c.found.result
+    c.self.view_is c.found.ensures.ends in
+    record {
+      founded = λ clean ready. made_means steps means old new ready law c.found.result (ended ready)
+          clean;
+      err = search rules;
+      rows = search rules;
+      rows_err = search rules;
+      lives = search rules;
+      fault = taken_alone g.S.Store newborn.code c.self.inside.tables.conn c.args.self.now new
+          c.found.result c.self.view_is c.found.ensures.exists;
+      crash = λ clean ready. crashes steps means old new ready law c.found.result (ended ready)
+          (places_as (newborn_lab newborn)) clean;
+      safe = λ clean ready. stays_safe steps means old new ready law c.found.result (ended ready)
+          clean;
+      durable = λ clean ready. on_lives steps old new c.found.result (ended ready) clean
+          (λ opened. durable_now g.S.Store g.met.S.Store.stays g.met.S.Store.settled
+          c.found.new.tables.conn (reached steps means old new ready law c.found.result
+          (ended ready)) clean opened);
+      quiet = search rules;
+      reached = λ clean ready. reached steps means old new ready law c.found.result (ended ready);
+      shuts = λ clean ready. world_shuts old new clean (ended ready).shuts;
+      passes = search rules;
+    }
 
-pub returns-clause-reached : goal.returns-clause-reached
-returns-clause-reached g c clean ready =
-    let old = state g.S.Store c.args.self.now in
-    let newborn = c.args.newborn in
-    let ends = founding_given g.S.Store newborn c.self.inside.tables.conn c.args.self.now (state g.S.Store c.found.new.tables.conn) c.found.result c.self.view_is c.found.ensures.ends ready in
-    reached (IsPlacedBy newborn) (Places (newborn_lab newborn)) old (state g.S.Store c.found.new.tables.conn) ready (founding_law newborn (tables_of old)) c.found.result ends
-
-pub returns-clause-shuts : goal.returns-clause-shuts
-returns-clause-shuts g c clean ready =
-    let newborn = c.args.newborn in
-    let ends = founding_given g.S.Store newborn c.self.inside.tables.conn c.args.self.now (state g.S.Store c.found.new.tables.conn) c.found.result c.self.view_is c.found.ensures.ends ready in
-    world_shuts (state g.S.Store c.args.self.now) (state g.S.Store c.found.new.tables.conn) clean ends.shuts
+pub returns-clause-cause : goal.returns-clause-cause
+returns-clause-cause g c =
+    newborn_blamed g.S.Store c.found.new.tables.conn c.self.inside.tables.conn c.args.self.now
+    c.args.newborn c.found.result c.self.view_is c.found.ensures.cause
 
 pub invariant_of-self : goal.invariant_of-self
 invariant_of-self g c = record { at_rest = c.found.ensures.at_rest; right = λ _ _ _. tt; opened = λ _. tt }

@@ -1,0 +1,17 @@
+use Rattle.std.proofs.Common.{◌≡◌, ◌⊎◌, IfErr, rules, subst, sym}
+use Rattle.sqlite.specs.Held.{state}
+use Rattle.sqlite.specs.State.{HasCleanDisk}
+use Rattle.lab_store_write.specs.Causes.{FailsBy, IsTooGreat}
+use Rattle.lab_store_write.proofs.Transactions.{fails_as}
+use Rattle.lab_move_files.specs.declared.inside.Inside.{Inside}
+use Rattle.lab_move_write.proofs.placing.add_inside.Goals as goal
+
+pub returns-clause-failed : goal.returns-clause-failed
+returns-clause-failed g c inside clean typed =
+    let made = c.add_whole-made.new.tx in
+    let great = IsTooGreat c.args.lab.now.strays in
+    let same : made.tx.now.conn.now ≡ c.tx-1.given.0.conn.now = search rules in
+    let clean_made : HasCleanDisk (state g.S.Store made.tx.now.conn.now) = subst (λ h. HasCleanDisk (state g.S.Store h)) (sym same) clean in
+    subst (λ h. IfErr c.add_whole-made.result (λ e. great ⊎ FailsBy (state g.S.Store) c.args.tx.now.conn.now h e)) same
+    (fails_as (λ (one : Inside g.row.S.Denot). one.tx.now.conn.now) (state g.S.Store) great _ made c.add_whole-made.result
+    (c.add_whole-made.ensures.failed inside clean_made typed))

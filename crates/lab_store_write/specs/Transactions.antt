@@ -1,0 +1,49 @@
+-- Why a call that commits tells of the store, over tables of ours: in its transaction the last
+-- statement was refused, or names a row that isn't there. Else the disk had a fault in the call, the
+-- connection was shut before it, or its steps have a limit; or the call is given what no store
+-- takes, which is named beside.
+use Rattle.std.specs.Prelude.{◌≡◌, ◌⊎◌, Result, IfErr, IsFalse, IsTrue}
+use Rattle.sqlite_trees.specs.declared.store.Store.{Ghosts}
+use Rattle.sqlite.specs.declared.error.Error.{Error}
+use Rattle.sqlite.specs.Held.{Held, state}
+use Rattle.sqlite.specs.State.{State, HasCleanDisk, IsRolledBack}
+use Rattle.lab_store_tables.specs.Held.{IsTyped}
+use Rattle.lab_store_read.specs.Causes.{IsCaused}
+use Rattle.lab_store_read.specs.Faults.{is_out_of_memory}
+use Rattle.lab_store_write.specs.Causes.{EndsBy}
+
+-- a transaction over the rows that were shown ended in this way, and not for want of memory; it was
+-- then undone
+pub record FailsWithin {S : Type 0} (g : Ghosts S) (Ends : Held S → Held S → Error → Type 0)
+    (old new : Held S) : Type 0 where
+  -- the transaction as it began, and as its last statement left it
+  pub begun : Held S
+  pub last : Held S
+  pub inside : IsTrue (state g begun).in_transaction
+  pub rows : (state g begun).now ≡ (state g old).now
+  pub error : Error
+  pub told : IsFalse (is_out_of_memory error)
+  pub ends : Ends begun last error
+  pub undone : IsRolledBack (state g last) (state g new)
+
+-- by its last statement, one of ours
+abbrev pub FailsInside : {S : Type 0} → Ghosts S → Held S → Held S → Type 0
+FailsInside g old new = FailsWithin g (EndsBy (state g)) old new
+
+-- the tables are ours, as far as the disk shows them
+abbrev pub HasOurTables : State → Type 0
+HasOurTables s = HasCleanDisk s → IsTrue s.is_open → IsTyped s.now
+
+-- a call over such tables, in one transaction, tells of the store for no other cause
+pub record EndsForCause {S T E : Type 0} (g : Ghosts S) (IsTold : E → Type 0) (Beside : Type 0)
+    (old new : Held S) (result : Result T E) : Type 0 where
+  pub limit : (state g new).step_limit ≡ (state g old).step_limit
+  pub cause : HasOurTables (state g old) → HasCleanDisk (state g new)
+      → IfErr result (λ fault. IsTold fault → IsCaused (state g old) (state g new)
+      ⊎ (Beside ⊎ FailsInside g old new))
+
+-- so does one that tells its error, which isn't want of memory
+abbrev pub TransactionEndsForCause : {S T : Type 0} → Ghosts S → Type 0 → Held S → Held S
+    → Result T Error → Type 0
+TransactionEndsForCause g Beside old new result =
+    EndsForCause g (λ e. IsFalse (is_out_of_memory e)) Beside old new result
