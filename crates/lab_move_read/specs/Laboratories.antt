@@ -1,26 +1,16 @@
 -- A laboratory of a file of schema 2, by its own row, and what a reading of it answers: the
 -- laboratory that the rows mean, where they are well kept (ISO/IEC 17025:2017, 7.11.3(d)).
-use Rattle.std.specs.Prelude.{◌≡◌, ℕ, Bool, true, false, ◌&&◌, List, map, find, Option, Some, None, option_map, Result, Ok, Err}
+use Rattle.std.specs.Prelude.{◌≡◌, ℕ, Bool, true, false, ◌&&◌, List, map, find, Option, Some, None, option_map}
 use Rattle.sqlite_keyed.specs.Lists.{sort_by}
 use Rattle.sqlite_value.specs.Order.{Row, column, bytes}
-use Rattle.lab_people_access.specs.declared.persons.Person.{Person}
-use Rattle.lab_people_access.specs.declared.sessions.Session.{Session}
-use Rattle.lab_records_kept.specs.declared.records.Record.{Record}
-use Rattle.lab_records_kept.specs.declared.trails.TrailRow.{TrailRow as Told}
 use Rattle.lab_records_kept.specs.declared.labs.Lab.{Lab}
 use Rattle.lab_store_tables.specs.Rows.{LabRow, Tables}
-use Rattle.lab_store_tables.specs.Meaning.{has_code, lab_in, persons_of, sessions_of, forms_of, records_of, trail_of}
+use Rattle.lab_store_tables.specs.Meaning.{has_code, lab_in, persons_of, sessions_of, forms_of, records_of}
 use Rattle.lab_store_read_records.specs.declared.heads.LabHead.{LabHead}
 use Rattle.lab_store_read_records.specs.Heads.{lab_head}
 use Rattle.lab_store_read_records.specs.Laboratories.{lab_by as lab_by_head}
 use Rattle.lab_move_tables.specs.KeptLabs.{are_kept_persons, are_kept_sessions, are_kept_forms, are_kept_records, is_kept_trail, is_kept_lab}
 use Rattle.lab_move_tables.specs.Shown.{by_lab}
-use Rattle.lab_move_read_people.specs.Kept.{where_kept}
-use Rattle.lab_move_read_records.specs.declared.heads.FormAt.{FormAt}
-use Rattle.lab_move_read_records.specs.Forms.{form_of}
-use Rattle.lab_move_read_records.specs.Records.{are_kept_records_by, records_by}
-use Rattle.lab_move_read.specs.declared.faults.WholeFault.{WholeFault}
-use Rattle.lab_move_read.specs.declared.faults.WholeFault.TheVariants.{NotKept}
 use Rattle.lab_move_read.specs.declared.wholes.People.{People}
 use Rattle.lab_move_read.specs.declared.wholes.Work.{Work}
 
@@ -59,46 +49,6 @@ is_kept_head t head =
 
 abbrev pub lab_by : Tables → LabHead → Lab
 lab_by t head = lab_by_head t head
-
--- ---- put together, where all of it is there
-
-abbrev pub people_with : Option (List Person) → Option (List Session) → Option People
-people_with (Some persons) (Some sessions) =
-    Some (record { persons = persons; sessions = sessions })
-people_with _ _ = None
-
--- by the forms of the laboratory
-abbrev pub records_if : Tables → LabHead → Option (List FormAt) → Option (List Record)
-records_if t head None = None
-records_if t head (Some forms) =
-    where_kept (are_kept_records_by t head.id forms head.records)
-    (records_by t head.id head.code forms)
-
-abbrev pub work_with : Option (List FormAt) → Option (List Record) → Option Work
-work_with (Some forms) (Some records) =
-    Some (record { forms = map form_of forms; records = records })
-work_with _ _ = None
-
-abbrev pub whole_of : LabHead → People → Work → List Told → Lab
-whole_of head people work trail = record {
-  code = head.code;
-  name = head.name;
-  last = head.last;
-  strays = head.strays;
-  persons = people.persons;
-  sessions = people.sessions;
-  forms = work.forms;
-  records = work.records;
-  trail = trail;
-}
-
-abbrev pub lab_with : LabHead → Option People → Option Work → Option (List Told) → Option Lab
-lab_with head (Some people) (Some work) (Some trail) = Some (whole_of head people work trail)
-lab_with head _ _ _ = None
-
-abbrev pub kept_lab : Option Lab → Result (Option Lab) WholeFault
-kept_lab None = Err NotKept
-kept_lab (Some lab) = Ok (Some lab)
 
 -- ---- what a reading of the laboratory of a code answers
 

@@ -3,10 +3,9 @@
 //! 11.10(a) and (c)). Nothing is written.
 #![tactic(auto)]
 
-mod faults;
 mod lab_codes;
 mod wholes;
 
-pub use faults::WholeFault;
 pub use lab_codes::codes;
+pub use lab_move_read_people::KeptFault;
 pub use wholes::whole;

@@ -1,4 +1,4 @@
-pub mod Conditions
+pub mod Found
 pub mod KeptLoops
 pub mod Numbered
 pub mod Beside

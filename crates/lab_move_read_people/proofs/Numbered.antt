@@ -1,5 +1,5 @@
 -- Rows that are shown, tested for their numbers and their laboratory, as the tables are.
-use Rattle.std.proofs.Common.{◌≡◌, ℕ, ℤ, Bool, true, ◌&&◌, ◌+◌, ◌==◌, List, [], ◌∷◌, map, length, refl, ap, ap₂, ◌∙◌, int_eq}
+use Rattle.std.proofs.Common.{◌≡◌, ℕ, ℤ, Bool, ◌&&◌, ◌+◌, ◌==◌, List, [], ◌∷◌, map, length, refl, ap, ap₂, int_eq}
 use Rattle.std.specs.List.{list_all}
 use Rattle.std.proofs.lemmas.List.{length-map}
 use Rattle.sqlite_value.specs.Order.{Row, column}

@@ -1,10 +1,9 @@
 -- What was read of persons, sessions and the trail, as what the tables have, and what was tried of them.
-use Rattle.std.proofs.Common.{◌≡◌, ℕ, ℤ, pos, Bool, true, ◌&&◌, ◌==◌, List, [], ◌∷◌, map, filter, length, slice_get, Option, Some, None, option_map, option_and_then, unwrap_or, refl, sym, ap, ap₂, ◌∙◌, int_eq}
+use Rattle.std.proofs.Common.{◌≡◌, ℕ, ℤ, pos, Bool, true, false, ◌&&◌, ◌==◌, List, [], ◌∷◌, map, filter, length, slice_get, Option, Some, None, option_map, option_and_then, unwrap_or, refl, sym, ap, ap₂, ◌∙◌, int_eq}
 use Rattle.std.specs.List.{list_all}
 use Rattle.sqlite_keyed.specs.Keyed.{get_by}
 use Rattle.sqlite_keyed.proofs.ListLemmas.{slice_get-filter, map-map, map_same}
-use Rattle.lab_people_access.specs.declared.persons.Person.{Person}
-use Rattle.lab_records_kept.specs.declared.trails.TrailRow.{TrailRow as Told}
+use Rattle.sqlite_value.specs.Order.{Row}
 use Rattle.lab_store_tables.specs.Rows.{PersonRow, SessionRow, TrailRow, Tables, person_id}
 use Rattle.lab_store_tables.specs.Columns.{password_in}
 use Rattle.lab_store_tables.specs.Meaning.{code_of, session_in, sessions_of, trail_of, persons_of}
@@ -24,23 +23,23 @@ use Rattle.lab_move_tables.specs.Owned.{own_persons, own_sessions, own_trail, la
 use Rattle.lab_move_tables.specs.KeptLabs.{run, is_theirs, is_nobody_or_theirs, are_kept_persons, are_kept_sessions, is_kept_trail}
 use Rattle.lab_move_tables.specs.Shown.{person_shown, persons_shown, owner_shown, owners_shown, session_shown, sessions_shown, told_shown, trail_shown}
 use Rattle.lab_move_tables.specs.Checks.{are_owned}
-use Rattle.lab_move_read_people.specs.Kept.{where_kept, are_counted}
-use Rattle.lab_move_read_people.specs.Owners.{owner_read}
+use Rattle.lab_move_read_people.specs.Kept.{IsFound, are_counted}
+use Rattle.lab_move_read_people.specs.Owners.{IsFirstOwner}
 use Rattle.lab_move_read_people.specs.Persons.{password_cells, ask_cells, person_read, is_kept_ask, is_kept_head}
-use Rattle.lab_move_read_people.specs.Trails.{is_kept_told, told_heads_of}
-use Rattle.lab_move_read_people.proofs.Conditions.{unkept, kept_test, kept_is, first_fails}
+use Rattle.lab_move_read_people.specs.Trails.{is_counted_trail, is_kept_told, told_heads_of}
+use Rattle.lab_move_read_people.proofs.Found.{first_fails}
 use Rattle.lab_move_read_people.proofs.Numbered.{counted_is, owned_is, list_all-map}
 use Rattle.lab_move_tables.proofs.OldOnes.{IsOldPerson, old_persons, all_same}
 
 -- ---- whoever an arrow leads to
 
-pub owner_found : (t : Tables) (lab id : ℤ) (found : Option (List ℕ)) → Some found ≡ option_map (owner_read lab) (slice_get (owners_shown t id) 0) → found ≡ where_kept (is_theirs t lab id) (code_of t id)
+pub owner_found : (t : Tables) (lab id : ℤ) (found : Option (List ℕ)) → IsFirstOwner lab (slice_get (owners_shown t id) 0) found → IsFound (is_theirs t lab id) (λ code. code ≡ code_of t id) found
 owner_found t lab id found h = go (filter (λ (one : PersonRow). int_eq one.id id) t.persons) (get_by person_id t.persons id) (slice_get-filter (λ (one : PersonRow). int_eq one.id id) t.persons) h
   where
-    go : (those : List PersonRow) (o : Option PersonRow) → slice_get those 0 ≡ o → Some found ≡ option_map (owner_read lab) (slice_get (map owner_shown those) 0)
-        → found ≡ where_kept (int_eq (unwrap_or (option_map (λ (one : PersonRow). one.lab) o) (pos 0)) lab) (unwrap_or (option_map (λ (one : PersonRow). one.code) o) [])
-    go [] o e shown = absurd cc
-    go (one ∷ more) o e shown = rw (sym e) (cc)
+    go : (those : List PersonRow) (o : Option PersonRow) → slice_get those 0 ≡ o → IsFirstOwner lab (slice_get (map owner_shown those) 0) found
+        → IsFound (int_eq (unwrap_or (option_map (λ (one : PersonRow). one.lab) o) (pos 0)) lab) (λ code. code ≡ unwrap_or (option_map (λ (one : PersonRow). one.code) o) []) found
+    go [] o e shown = absurd shown
+    go (one ∷ more) o e shown = rw (sym e) shown
 
 -- ---- persons
 
@@ -96,47 +95,46 @@ asker_kept t lab one = go one.ask.asker
 pub persons_tried : (t : Tables) (lab : ℤ) → list_all (is_kept_head t lab) (person_heads_of t lab) ≡ are_kept_persons t lab
 persons_tried t lab = list_all-map (is_kept_head t lab) person_head (own_persons t lab) ∙ list_all_same _ _ (asker_kept t lab) (own_persons t lab)
 
-pub persons_done : (t : Tables) (lab : ℤ) (heads : List PersonHead) (found : Option (List Person)) → heads ≡ person_heads_of t lab
-    → found ≡ where_kept (list_all (is_kept_head t lab) heads) (map (person_by t) heads) → found ≡ where_kept (are_kept_persons t lab) (persons_of t lab)
-persons_done t lab heads found is so =
-    so ∙ ap (λ l. where_kept (list_all (is_kept_head t lab) l) (map (person_by t) l)) is ∙ ap₂ where_kept (persons_tried t lab) (persons_built t lab)
+pub persons_done : (t : Tables) (lab : ℤ) (heads : List PersonHead) → heads ≡ person_heads_of t lab → (list_all (is_kept_head t lab) heads ≡ are_kept_persons t lab) × (map (person_by t) heads ≡ persons_of t lab)
+persons_done t lab heads is = (ap (list_all (is_kept_head t lab)) is ∙ persons_tried t lab, ap (map (person_by t)) is ∙ persons_built t lab)
 
 -- ---- sessions
 
 session_back : (t : Tables) (one : SessionRow) → session_read (session_shown t one) ≡ session_in t one
 session_back t one = λ i. record (session_in t one) { closed = flag_back one.closed i; signed = flag_back one.signed i }
 
-pub sessions_done : (t : Tables) (lab : ℤ) (count : ℕ)
-    → where_kept (are_counted 0 count (sessions_shown t lab) && are_owned 7 lab (sessions_shown t lab)) (map session_read (sessions_shown t lab)) ≡ where_kept (are_kept_sessions t lab count) (sessions_of t lab)
-sessions_done t lab count =
-    let own = own_sessions t lab in
-    ap₂ where_kept (ap₂ ◌&&◌ (counted_is (session_shown t) 0 count (λ (one : SessionRow). one.number) (λ one. refl) own)
-    (owned_is (session_shown t) 7 lab (λ (one : SessionRow). lab_of t one.person) (λ one. refl) own))
-    (map-map session_read (session_shown t) own ∙ map_same _ _ (session_back t) own)
+pub sessions_done : (t : Tables) (lab : ℤ) (count : ℕ) (rows : List Row) → rows ≡ sessions_shown t lab
+    → ((are_counted 0 count rows && are_owned 7 lab rows) ≡ are_kept_sessions t lab count) × (map session_read rows ≡ sessions_of t lab)
+sessions_done t lab count rows is =
+    let own = own_sessions t lab in (
+      ap (λ l. are_counted 0 count l && are_owned 7 lab l) is
+          ∙ ap₂ ◌&&◌ (counted_is (session_shown t) 0 count (λ (one : SessionRow). one.number) (λ one. refl) own)
+          (owned_is (session_shown t) 7 lab (λ (one : SessionRow). lab_of t one.person) (λ one. refl) own),
+      ap (map session_read) is ∙ map-map session_read (session_shown t) own ∙ map_same _ _ (session_back t) own,
+    )
 
 -- ---- the trail
 
 told_back : (one : TrailRow) → told_read (told_shown one) ≡ told_head one
 told_back one = λ i. record (told_head one) { person = id_back one.person i }
 
-pub told_found : (t : Tables) (lab : ℤ) (count : ℕ) → where_kept (are_counted 0 count (trail_shown t lab)) (map told_read (trail_shown t lab)) ≡ told_heads_of t lab count
-told_found t lab count = ap (where_kept (are_counted 0 count (trail_shown t lab))) (map-map told_read told_shown (own_trail t lab) ∙ map_same _ _ told_back (own_trail t lab))
+pub told_done : (t : Tables) (lab : ℤ) (count : ℕ) (rows : List Row) → rows ≡ trail_shown t lab → (are_counted 0 count rows ≡ is_counted_trail t lab count) × (map told_read rows ≡ told_heads_of t lab)
+told_done t lab count rows is = (
+  ap (are_counted 0 count) is,
+  ap (map told_read) is ∙ map-map told_read told_shown (own_trail t lab) ∙ map_same _ _ told_back (own_trail t lab),
+)
 
-told_counted : (t : Tables) (lab : ℤ) (count : ℕ) → are_counted 0 count (trail_shown t lab) ≡ ((length (own_trail t lab) == count) && run (λ (told : TrailRow). told.number) (own_trail t lab))
+told_counted : (t : Tables) (lab : ℤ) (count : ℕ) → is_counted_trail t lab count ≡ ((length (own_trail t lab) == count) && run (λ (told : TrailRow). told.number) (own_trail t lab))
 told_counted t lab count = counted_is told_shown 0 count (λ (one : TrailRow). one.number) (λ one. refl) (own_trail t lab)
 
-pub trail_done : (t : Tables) (lab : ℤ) (count : ℕ) (heads : List ToldHead) (found : Option (List Told)) → Some heads ≡ told_heads_of t lab count
-    → found ≡ where_kept (list_all (is_kept_told t lab) heads) (map (told_by t) heads) → found ≡ where_kept (is_kept_trail t lab count) (trail_of t lab)
-trail_done t lab count heads found is so =
-    let own = own_trail t lab in
-    let counted = are_counted 0 count (trail_shown t lab) in
-    let passes : counted ≡ true = kept_test counted (map told_head own) heads is in
-    let same : heads ≡ map told_head own = kept_is counted (map told_head own) heads is in
-    so ∙ ap (λ l. where_kept (list_all (is_kept_told t lab) l) (map (told_by t) l)) same
-    ∙ ap₂ where_kept (list_all-map (is_kept_told t lab) told_head own) (map-map (told_by t) told_head own)
-    ∙ ap (λ b. where_kept (b && list_all (λ (told : TrailRow). is_nobody_or_theirs t lab told.person) own) (trail_of t lab)) (sym passes ∙ told_counted t lab count)
+pub trail_done : (t : Tables) (lab : ℤ) (count : ℕ) (heads : List ToldHead) → is_counted_trail t lab count ≡ true → heads ≡ told_heads_of t lab
+    → (list_all (is_kept_told t lab) heads ≡ is_kept_trail t lab count) × (map (told_by t) heads ≡ trail_of t lab)
+trail_done t lab count heads passes is =
+    let own = own_trail t lab in (
+      ap (list_all (is_kept_told t lab)) is ∙ list_all-map (is_kept_told t lab) told_head own
+          ∙ ap (λ b. b && list_all (λ (told : TrailRow). is_nobody_or_theirs t lab told.person) own) (sym passes ∙ told_counted t lab count),
+      ap (map (told_by t)) is ∙ map-map (told_by t) told_head own,
+    )
 
-pub trail_fails : (t : Tables) (lab : ℤ) (count : ℕ) → None ≡ told_heads_of t lab count → None ≡ where_kept (is_kept_trail t lab count) (trail_of t lab)
-trail_fails t lab count none =
-    let own = own_trail t lab in
-    first_fails _ (list_all (λ (told : TrailRow). is_nobody_or_theirs t lab told.person) own) (trail_of t lab) (sym (told_counted t lab count) ∙ unkept _ (map told_head own) none)
+pub trail_fails : (t : Tables) (lab : ℤ) (count : ℕ) → is_counted_trail t lab count ≡ false → is_kept_trail t lab count ≡ false
+trail_fails t lab count fails = first_fails _ _ (sym (told_counted t lab count) ∙ fails)

@@ -1,4 +1,5 @@
 pub mod Cells
+pub mod Faults
 pub mod Kept
 pub mod Owners
 pub mod Persons

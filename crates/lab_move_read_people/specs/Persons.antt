@@ -1,10 +1,8 @@
 -- What the row of a person is read as, by its schema; and whether whoever asked for something is of the
 -- laboratory.
-use Rattle.std.specs.Prelude.{ℕ, ℤ, Bool, List, Option, Some, option_map, option_and_then, unwrap_or}
+use Rattle.std.specs.Prelude.{ℕ, ℤ, Bool, Option, Some, option_map, option_and_then, unwrap_or}
 use Rattle.sqlite_value.specs.Order.{Row, column, bytes}
 use Rattle.sqlite_rules.specs.Edit.{id_in}
-use Rattle.lab_people_access.specs.declared.persons.Ask.{Ask}
-use Rattle.lab_people_access.specs.declared.persons.Person.{Person}
 use Rattle.lab_store_tables.specs.Rows.{PasswordColumns, AskColumns, Tables, number_in, flag_in, optional_in}
 use Rattle.lab_store_tables.specs.Columns.{roles_in, password_in, verifier_in}
 use Rattle.lab_store_read_people.specs.declared.heads.AskHead.{AskHead}
@@ -68,23 +66,6 @@ person_read older row = record {
   locked = optional_in number_in (column row 5);
   password = password_in (password_cells older row);
   ask = ask_head (ask_cells older row);
-}
-
--- ---- with whoever asked
-
-abbrev pub asked_by : AskHead → List ℕ → Option Ask
-asked_by ask asker = Some (record { asker = asker; asked = ask.asked; first = ask.first })
-
-abbrev pub person_with : PersonHead → Option Ask → Person
-person_with head ask = record {
-  code = head.code;
-  name = head.name;
-  roles = head.roles;
-  retired = head.retired;
-  failures = head.failures;
-  locked = head.locked;
-  password = head.password;
-  ask = ask;
 }
 
 -- ---- of the laboratory

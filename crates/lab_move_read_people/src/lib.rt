@@ -2,14 +2,15 @@
 //! are well kept: each is tried where it is read (21 CFR 11.10(a), (d) and (g); ISO/IEC 17025:2017, 7.11.3(d)). Nothing is written.
 #![tactic(auto)]
 
-mod actions;
 pub mod cells;
+mod faults;
 mod owners;
 mod passwords;
 mod people;
 mod sessions;
 mod trails;
 
+pub use faults::KeptFault;
 pub use people::persons_at;
 pub use sessions::sessions_at;
 pub use trails::trail_at;

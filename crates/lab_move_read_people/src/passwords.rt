@@ -9,13 +9,14 @@ ghost use Rattle.lab_store_read_people.specs.Heads.{ask_head};
 ghost use Rattle.lab_move_read_people.specs.Cells.{are_null, has_no_password};
 ghost use Rattle.lab_move_read_people.specs.Persons.{password_cells, ask_cells, ask_by_row, ask_rounds_in};
 
-use crate::cells::{bytes_due, is_null, moment_due, salt_due, small_due};
+use crate::cells::is_null;
 use lab_move_tables::Older;
 use lab_people_access::{OLD_ROUNDS, Password};
 use lab_seal_hashes::Verifier;
 use lab_store_read::cells::{id_if, small_of};
 use lab_store_read::{BadStore, ReadFault};
 use lab_store_read_people::AskHead;
+use lab_store_read_people::cells::{bytes_due, moment_due, salt_due, small_due};
 use sqlite::Row;
 
 // The verifier whose salt and bytes stand in two columns; every verifier of a file of schema 2 has

@@ -5,18 +5,20 @@ ghost use Rattle.std.specs.List.{list_all};
 ghost use Rattle.lab_store_tables.specs.Meaning.{persons_of};
 ghost use Rattle.lab_store_read_people.specs.Heads.{ask_by, person_by, person_heads_of};
 ghost use Rattle.lab_move_tables.specs.KeptLabs.{are_kept_persons};
-ghost use Rattle.lab_move_tables.specs.Reading.{ReadsBy, ReadsOld};
-ghost use Rattle.lab_move_read_people.specs.Kept.{where_kept};
-ghost use Rattle.lab_move_read_people.specs.Persons.{person_read, is_kept_ask, is_kept_head, asked_by, person_with};
+ghost use Rattle.lab_move_tables.specs.Reading.{ReadsBy};
+ghost use Rattle.lab_move_read_people.specs.Kept.{TriesBy, TriesOld};
+ghost use Rattle.lab_move_read_people.specs.Persons.{person_read, is_kept_ask, is_kept_head};
 
-use crate::cells::{flag_of, moment_if, roles_of};
+use crate::KeptFault;
+use crate::cells::{flag_of, roles_of};
 use crate::owners::theirs_at;
 use crate::passwords::{ask_of_row, password_of_row};
-use lab_forms_texts::{PersonCode, Series};
+use lab_forms_texts::Series;
 use lab_move_tables::{Older, person_rows};
 use lab_people_access::{Ask, Person};
 use lab_store_read::cells::{small_of, text_of};
 use lab_store_read::{ReadFault, Readable};
+use lab_store_read_people::cells::moment_if;
 use lab_store_read_people::{AskHead, PersonHead};
 use sqlite::Row;
 use std::alloc::Global;
@@ -70,107 +72,83 @@ fn person_heads_at<D: Readable>(
     persons_of_rows(alloc, older, &rows)
 }
 
-// What somebody asked for, where there is somebody.
-fn asked_by(ask: AskHead, asker: Option<PersonCode>) -> Option<Option<Ask>>
-    ensures { result ≡ option_map (asked_by ask) asker }
-{
-    match asker {
-        Some(asker) => Some(Some(Ask {
-            asker,
-            asked: ask.asked,
-            first: ask.first,
-        })),
-        None => None,
-    }
-}
-
-// What was asked for, where whoever asked is of the laboratory.
+// What was asked for, with the code of the person who asked.
 fn ask_whole<D: Readable>(
     alloc: Global,
     conn: &mut D,
     lab: i64,
     ask: Option<AskHead>,
-) -> Result<Option<Option<Ask>>, ReadFault>
-    ensures { ReadsOld (λ t found. found
-        ≡ where_kept (is_kept_ask t lab ask) (option_map (ask_by t) ask))
+) -> Result<Option<Ask>, KeptFault>
+    ensures { TriesOld (λ t. is_kept_ask t lab ask) (λ t whole. whole ≡ option_map (ask_by t) ask)
         (D.state conn.old) (D.state conn.new) result }
 {
     match ask {
         Some(ask) => {
             let asker = theirs_at(alloc, conn, lab, ask.asker)?;
-            Ok(asked_by(ask, asker))
+            Ok(Some(Ask {
+                asker,
+                asked: ask.asked,
+                first: ask.first,
+            }))
         }
-        None => Ok(Some(None)),
+        None => Ok(None),
     }
 }
 
-// The person of the row, with what was asked for, where that is there.
-fn person_with(head: PersonHead, ask: Option<Option<Ask>>) -> Option<Person>
-    ensures { result ≡ option_map (person_with head) ask }
-{
-    match ask {
-        Some(ask) => Some(Person {
-            code: head.code,
-            name: head.name,
-            roles: head.roles,
-            retired: head.retired,
-            failures: head.failures,
-            locked: head.locked,
-            password: head.password,
-            ask,
-        }),
-        None => None,
-    }
-}
-
-// The person of the row, where whoever asked for something is of the laboratory.
+// The person of the row.
 fn person_whole<D: Readable>(
     alloc: Global,
     conn: &mut D,
     lab: i64,
     head: PersonHead,
-) -> Result<Option<Person>, ReadFault>
-    ensures { ReadsOld (λ t found. found
-        ≡ where_kept (is_kept_head t lab head) (person_by t head))
+) -> Result<Person, KeptFault>
+    ensures { TriesOld (λ t. is_kept_head t lab head) (λ t person. person ≡ person_by t head)
         (D.state conn.old) (D.state conn.new) result }
 {
     let ask = ask_whole(alloc, conn, lab, head.ask)?;
-    Ok(person_with(head, ask))
+    Ok(Person {
+        code: head.code,
+        name: head.name,
+        roles: head.roles,
+        retired: head.retired,
+        failures: head.failures,
+        locked: head.locked,
+        password: head.password,
+        ask,
+    })
 }
 
-// The persons of the rows, where each who asked for something is of the laboratory.
+// The persons of the rows.
 fn persons_whole<D: Readable>(
     alloc: Global,
     conn: &mut D,
     lab: i64,
     heads: Vec<PersonHead>,
-) -> Result<Option<Series<Person>>, ReadFault>
-    ensures { ReadsOld (λ t found. found
-        ≡ where_kept (list_all (is_kept_head t lab) heads.items) (map (person_by t) heads.items))
+) -> Result<Series<Person>, KeptFault>
+    ensures { TriesOld (λ t. list_all (is_kept_head t lab) heads.items)
+        (λ t made. made ≡ map (person_by t) heads.items)
         (D.state conn.old) (D.state conn.new) result }
 {
     let mut made = Series::new(alloc);
     for head in heads {
-        let Some(person) = person_whole(alloc, conn, lab, head)? else {
-            return Ok(None);
-        };
+        let person = person_whole(alloc, conn, lab, head)?;
         made.push(person)?;
     }
-    Ok(Some(made))
+    Ok(made)
 }
 
-/// The persons of the laboratory with the id, in the order of their codes, where they are well kept.
+/// Returns the persons of the laboratory with the id, in the order of their codes.
 ///
 /// # Errors
-/// The store refused, a row is none that is written, or memory ran out.
+/// They aren't well kept, the store failed, a row isn't one that a program could have written, or
+/// memory ran out.
 pub fn persons_at<D: Readable>(
     alloc: Global,
     conn: &mut D,
     older: Older,
     lab: i64,
-) -> Result<Option<Series<Person>>, ReadFault>
-    ensures { ReadsBy older (λ t found. found
-        ≡ where_kept (are_kept_persons t lab) (persons_of t lab))
+) -> Result<Series<Person>, KeptFault>
+    ensures { TriesBy older (λ t. are_kept_persons t lab) (λ t made. made ≡ persons_of t lab)
         (D.state conn.old) (D.state conn.new) result }
 {
     let heads = person_heads_at(alloc, conn, older, lab)?;

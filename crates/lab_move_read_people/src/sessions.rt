@@ -4,10 +4,10 @@ ghost use Rattle.std.specs.Prelude.{◌≡◌, ◌&&◌, map, IfOk};
 ghost use Rattle.lab_store_tables.specs.Meaning.{sessions_of};
 ghost use Rattle.lab_store_read_people.specs.SessionsShown.{session_read};
 ghost use Rattle.lab_move_tables.specs.KeptLabs.{are_kept_sessions};
-ghost use Rattle.lab_move_tables.specs.Reading.{ReadsOld};
-ghost use Rattle.lab_move_read_people.specs.Kept.{where_kept, are_counted};
+ghost use Rattle.lab_move_read_people.specs.Kept.{IsTried, TriesOld, are_counted};
 ghost use Rattle.lab_move_tables.specs.Checks.{are_owned};
 
+use crate::KeptFault;
 use crate::cells::{are_counted, flag_of};
 use lab_forms_texts::Series;
 use lab_move_tables::{are_owned, session_rows};
@@ -50,37 +50,39 @@ fn sessions_of_rows(alloc: Global, rows: &[Row]) -> Result<Vec<Session>, ReadFau
     Ok(made)
 }
 
-// The sessions that rows show, where they are so many, are numbered, and their persons are of the laboratory.
+// The sessions that rows show. The rows have to be so many, numbered, and of persons of the
+// laboratory.
 fn sessions_tried(
     alloc: Global,
     rows: &[Row],
     lab: i64,
     count: u64,
-) -> Result<Option<Series<Session>>, ReadFault>
-    ensures { IfOk result (λ found. found ≡ where_kept
-        (are_counted 0 count rows.now && are_owned 7 lab rows.now) (map session_read rows.now)) }
+) -> Result<Series<Session>, KeptFault>
+    ensures { IsTried (are_counted 0 count rows.now && are_owned 7 lab rows.now)
+        (λ made. made ≡ map session_read rows.now) result }
 {
     if !are_counted(rows, 0, count)? {
-        return Ok(None);
+        return Err(KeptFault::NotKept);
     }
     if !are_owned(rows, 7, lab)? {
-        return Ok(None);
+        return Err(KeptFault::NotKept);
     }
-    Ok(Some(Series::from_vec(sessions_of_rows(alloc, rows)?)))
+    Ok(Series::from_vec(sessions_of_rows(alloc, rows)?))
 }
 
-/// The sessions of the laboratory with the id, in the order of their numbers, where they are so many and well kept.
+/// Returns the sessions of the laboratory with the id, in the order of their numbers. They have to
+/// be so many.
 ///
 /// # Errors
-/// The store refused, a row is none that is written, or memory ran out.
+/// They aren't well kept, the store failed, a row isn't one that a program could have written, or
+/// memory ran out.
 pub fn sessions_at<D: Readable>(
     alloc: Global,
     conn: &mut D,
     lab: i64,
     count: u64,
-) -> Result<Option<Series<Session>>, ReadFault>
-    ensures { ReadsOld (λ t found. found
-        ≡ where_kept (are_kept_sessions t lab count) (sessions_of t lab))
+) -> Result<Series<Session>, KeptFault>
+    ensures { TriesOld (λ t. are_kept_sessions t lab count) (λ t made. made ≡ sessions_of t lab)
         (D.state conn.old) (D.state conn.new) result }
 {
     let rows = session_rows(conn, lab)?;

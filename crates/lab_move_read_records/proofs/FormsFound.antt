@@ -1,14 +1,11 @@
 -- What was read of forms and their fields, as what the tables have, and what was tried of them.
-use Rattle.std.proofs.Common.{◌≡◌, ◌≤◌, ℕ, ℤ, Bool, true, false, ◌&&◌, ◌==◌, ◌+◌, cond, List, [], ◌∷◌, map, filter, find, length, slice_get, Option, Some, None, option_map, unwrap_or, refl, sym, ap, ap₂, ◌∙◌, int_eq, bytes_eq, arith}
-use Rattle.std.specs.Prelude.{if◌then◌else◌}
+use Rattle.std.proofs.Common.{◌≡◌, ℤ, true, false, ◌&&◌, ◌==◌, List, [], ◌∷◌, map, Option, Some, None, option_map, refl, sym, ap, ap₂, ◌∙◌}
 use Rattle.std.specs.List.{list_all}
-use Rattle.std.specs.Cmp.{IsTotalOrder}
+use Rattle.sqlite_value.specs.Order.{Row}
 use Rattle.sqlite_keyed.proofs.ListLemmas.{map-map, map_same}
-use Rattle.lab_forms.specs.declared.forms.Field.{Field}
-use Rattle.lab_records_kept.specs.declared.records.FormVersion.{FormVersion}
 use Rattle.lab_store_tables.specs.Rows.{FormRow, FieldRow, ChoiceRow, Tables}
 use Rattle.lab_store_tables.specs.Columns.{kind_in}
-use Rattle.lab_store_tables.specs.Meaning.{names_of, field_in, fields_of, form_in, forms_of}
+use Rattle.lab_store_tables.specs.Meaning.{names_of, field_in, fields_of, forms_of}
 use Rattle.lab_store_read.proofs.Found.{flag_back, text_back, number_back}
 use Rattle.lab_store_read_forms.specs.KindsShown.{kind_cells, name_read}
 use Rattle.lab_store_read_forms.proofs.KindsFound.{kind_named}
@@ -16,23 +13,25 @@ use Rattle.lab_move_tables.specs.declared.older.Older.{Older}
 use Rattle.lab_move_tables.specs.declared.older.Older.TheVariants.{Two}
 use Rattle.lab_move_tables.specs.Standing.{AreLifted}
 use Rattle.lab_move_tables.specs.Owned.{own_forms, own_fields, own_choices}
-use Rattle.lab_move_tables.specs.KeptLabs.{run, next_of, run_by_code, are_kept_names, is_kept_field, are_kept_fields, is_kept_form, are_kept_forms}
+use Rattle.lab_move_tables.specs.KeptLabs.{next_of, run_by_code, are_kept_names, is_kept_field, are_kept_fields, is_kept_form, are_kept_forms}
 use Rattle.lab_move_tables.specs.Shown.{form_shown, forms_shown, field_shown, fields_shown, choice_shown, choices_shown}
 use Rattle.lab_move_tables.specs.Checks.{are_rows_numbered}
-use Rattle.lab_move_read_records.specs.declared.heads.FieldHead.{FieldHead}
-use Rattle.lab_move_read_records.specs.declared.heads.FormHead.{FormHead}
-use Rattle.lab_move_read_records.specs.declared.heads.FormAt.{FormAt}
-use Rattle.lab_move_read_people.specs.Kept.{where_kept}
-use Rattle.lab_move_read_records.specs.Forms.{field_read, field_head, field_by, is_kept_field_head, field_heads_tried, form_read, form_head, form_heads_of, form_at_by, is_kept_form_head, forms_run, form_at_in, forms_at_of, form_of}
-use Rattle.lab_move_read_people.proofs.Conditions.{unkept, kept_test, kept_is, first_fails}
+use Rattle.lab_store_read_forms.specs.declared.heads.FieldHead.{FieldHead}
+use Rattle.lab_store_read_forms.specs.declared.heads.FormHead.{FormHead}
+use Rattle.lab_store_read_forms.specs.Forms.{field_head, field_heads_of, field_by, form_head}
+use Rattle.lab_store_read_forms.specs.Shown.{field_read}
+use Rattle.lab_move_read_records.specs.Forms.{are_kept_places, is_kept_field_head, form_read, form_heads_of, form_at_by, is_kept_form_head, forms_run, form_at_in, forms_at_of, form_of}
+use Rattle.lab_move_read_people.proofs.Found.{first_fails}
 use Rattle.lab_move_read_people.proofs.Numbered.{numbered_is, list_all-map}
 use Rattle.lab_move_tables.proofs.OldOnes.{IsOldForm, old_forms, all_same}
 
 -- ---- names
 
-pub names_done : (t : Tables) (field : ℤ) → where_kept (are_rows_numbered 1 (choices_shown t field)) (map name_read (choices_shown t field)) ≡ where_kept (are_kept_names t field) (names_of t field)
-names_done t field =
-    ap₂ where_kept (numbered_is choice_shown 1 (λ (one : ChoiceRow). one.place) (λ one. refl) (own_choices t field)) (map-map name_read choice_shown (own_choices t field))
+pub names_done : (t : Tables) (field : ℤ) (rows : List Row) → rows ≡ choices_shown t field → (are_rows_numbered 1 rows ≡ are_kept_names t field) × (map name_read rows ≡ names_of t field)
+names_done t field rows is = (
+  ap (are_rows_numbered 1) is ∙ numbered_is choice_shown 1 (λ (one : ChoiceRow). one.place) (λ one. refl) (own_choices t field),
+  ap (map name_read) is ∙ map-map name_read choice_shown (own_choices t field),
+)
 
 -- ---- fields
 
@@ -49,28 +48,22 @@ cells_back one = λ i. record {
 field_back : (one : FieldRow) → field_read (field_shown one) ≡ field_head one
 field_back one = λ i. record (field_head one) { required = flag_back one.required i; kind = kind_in (cells_back one i) [] }
 
-places : (t : Tables) (form : ℤ) → are_rows_numbered 10 (fields_shown t form) ≡ run (λ (field : FieldRow). field.place) (own_fields t form)
-places t form = numbered_is field_shown 10 (λ (one : FieldRow). one.place) (λ one. refl) (own_fields t form)
-
-pub fields_found : (t : Tables) (form : ℤ) → where_kept (are_rows_numbered 10 (fields_shown t form)) (map field_read (fields_shown t form)) ≡ field_heads_tried t form
-fields_found t form = ap₂ where_kept (places t form) (map-map field_read field_shown (own_fields t form) ∙ map_same _ _ field_back (own_fields t form))
+pub field_rows_done : (t : Tables) (form : ℤ) (rows : List Row) → rows ≡ fields_shown t form → (are_rows_numbered 10 rows ≡ are_kept_places t form) × (map field_read rows ≡ field_heads_of t form)
+field_rows_done t form rows is = (
+  ap (are_rows_numbered 10) is ∙ numbered_is field_shown 10 (λ (one : FieldRow). one.place) (λ one. refl) (own_fields t form),
+  ap (map field_read) is ∙ map-map field_read field_shown (own_fields t form) ∙ map_same _ _ field_back (own_fields t form),
+)
 
 field_built : (t : Tables) (one : FieldRow) → field_by t (field_head one) ≡ field_in t one
 field_built t one = λ i. record (field_in t one) { kind = kind_named one.kind (names_of t one.id) i }
 
-pub fields_done : (t : Tables) (form : ℤ) (heads : List FieldHead) (found : Option (List Field)) → Some heads ≡ field_heads_tried t form
-    → found ≡ where_kept (list_all (is_kept_field_head t) heads) (map (field_by t) heads) → found ≡ where_kept (are_kept_fields t form) (fields_of t form)
-fields_done t form heads found is so =
-    let own = own_fields t form in
-    let numbered = run (λ (field : FieldRow). field.place) own in
-    let passes : numbered ≡ true = kept_test numbered (map field_head own) heads is in
-    let same : heads ≡ map field_head own = kept_is numbered (map field_head own) heads is in
-    so ∙ ap (λ l. where_kept (list_all (is_kept_field_head t) l) (map (field_by t) l)) same
-    ∙ ap₂ where_kept (list_all-map (is_kept_field_head t) field_head own) (map-map (field_by t) field_head own ∙ map_same _ _ (field_built t) own)
-    ∙ ap (λ b. where_kept (b && list_all (is_kept_field t) own) (fields_of t form)) (sym passes)
-
-pub fields_fail : (t : Tables) (form : ℤ) → None ≡ field_heads_tried t form → None ≡ where_kept (are_kept_fields t form) (fields_of t form)
-fields_fail t form none = first_fails _ (list_all (is_kept_field t) (own_fields t form)) (fields_of t form) (unkept _ (map field_head (own_fields t form)) none)
+pub fields_done : (t : Tables) (form : ℤ) (heads : List FieldHead) → are_kept_places t form ≡ true → heads ≡ field_heads_of t form
+    → (list_all (is_kept_field_head t) heads ≡ are_kept_fields t form) × (map (field_by t) heads ≡ fields_of t form)
+fields_done t form heads passes is =
+    let own = own_fields t form in (
+      ap (list_all (is_kept_field_head t)) is ∙ list_all-map (is_kept_field_head t) field_head own ∙ ap (λ b. b && list_all (is_kept_field t) own) (sym passes),
+      ap (map (field_by t)) is ∙ map-map (field_by t) field_head own ∙ map_same _ _ (field_built t) own,
+    )
 
 -- ---- versions of forms
 
@@ -92,22 +85,20 @@ runs before (one ∷ others) = ap₂ (λ n more. (one.version == n) && more) (ne
     next None = refl
     next (Some other) = refl
 
-pub forms_tried : (t : Tables) (lab : ℤ) (heads : List FormHead) → heads ≡ form_heads_of t lab
+forms_tried : (t : Tables) (lab : ℤ) (heads : List FormHead) → heads ≡ form_heads_of t lab
     → forms_run None heads ≡ run_by_code (λ (form : FormRow). form.code) (λ (form : FormRow). form.version) None (own_forms t lab)
 forms_tried t lab heads is = ap (forms_run None) is ∙ runs None (own_forms t lab)
 
-pub forms_done : (t : Tables) (lab : ℤ) (heads : List FormHead) (found : Option (List FormAt)) → heads ≡ form_heads_of t lab → forms_run None heads ≡ true
-    → found ≡ where_kept (list_all (is_kept_form_head t) heads) (map (form_at_by t) heads)
-    → found ≡ where_kept (are_kept_forms t lab) (forms_at_of t lab)
-forms_done t lab heads found is passes so =
-    let own = own_forms t lab in
-    so ∙ ap (λ l. where_kept (list_all (is_kept_form_head t) l) (map (form_at_by t) l)) is
-    ∙ ap₂ where_kept (list_all-map (is_kept_form_head t) form_head own)
-    (map-map (form_at_by t) form_head own)
-    ∙ ap (λ b. where_kept (b && list_all (is_kept_form t) own) (forms_at_of t lab)) (sym passes ∙ forms_tried t lab heads is)
+pub forms_done : (t : Tables) (lab : ℤ) (heads : List FormHead) → heads ≡ form_heads_of t lab → forms_run None heads ≡ true
+    → (list_all (is_kept_form_head t) heads ≡ are_kept_forms t lab) × (map (form_at_by t) heads ≡ forms_at_of t lab)
+forms_done t lab heads is passes =
+    let own = own_forms t lab in (
+      ap (list_all (is_kept_form_head t)) is ∙ list_all-map (is_kept_form_head t) form_head own ∙ ap (λ b. b && list_all (is_kept_form t) own) (sym passes ∙ forms_tried t lab heads is),
+      ap (map (form_at_by t)) is ∙ map-map (form_at_by t) form_head own,
+    )
 
-pub forms_fail : (t : Tables) (lab : ℤ) (heads : List FormHead) → heads ≡ form_heads_of t lab → forms_run None heads ≡ false → None ≡ where_kept (are_kept_forms t lab) (forms_at_of t lab)
-forms_fail t lab heads is fails = first_fails _ (list_all (is_kept_form t) (own_forms t lab)) (forms_at_of t lab) (sym (forms_tried t lab heads is) ∙ fails)
+pub forms_fail : (t : Tables) (lab : ℤ) (heads : List FormHead) → heads ≡ form_heads_of t lab → forms_run None heads ≡ false → are_kept_forms t lab ≡ false
+forms_fail t lab heads is fails = first_fails _ _ (sym (forms_tried t lab heads is) ∙ fails)
 
 pub forms_alone : (t : Tables) (lab : ℤ) → map form_of (forms_at_of t lab) ≡ forms_of t lab
 forms_alone t lab = map-map form_of (form_at_in t) (own_forms t lab)

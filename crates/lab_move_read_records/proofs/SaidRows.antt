@@ -1,5 +1,5 @@
 -- Rows in which an empty text stands for no reason are read, and tried, as those with NULL.
-use Rattle.std.proofs.Common.{◌≡◌, ◌≢◌, ℕ, zero, suc, ℤ, ◌+◌, ◌==◌, ◌&&◌, List, [], ◌∷◌, map, length, refl, ap, ap₂, ◌∙◌, int_eq}
+use Rattle.std.proofs.Common.{◌≡◌, ◌≢◌, ℕ, zero, suc, ℤ, ◌+◌, ◌==◌, ◌&&◌, List, [], ◌∷◌, map, refl, ap, ap₂, ◌∙◌, int_eq}
 use Rattle.std.specs.Prelude.{slice_set}
 use Rattle.std.proofs.lemmas.List.{length-map}
 use Rattle.sqlite_value.specs.declared.value.Value.{Value}

@@ -1,71 +1,29 @@
 -- Versions of forms and their fields as they are read: each row by its id, what stands in rows of
 -- their own put together, and whether their places and numbers run from 1 on.
-use Rattle.std.specs.Prelude.{ℕ, ℤ, Bool, true, false, ◌&&◌, ◌==◌, ◌+◌, List, [], ◌∷◌, map, find, Option, Some, None, option_map, unwrap_or, bytes_eq}
+use Rattle.std.specs.Prelude.{ℤ, Bool, true, false, ◌&&◌, ◌==◌, List, [], ◌∷◌, map, find, Option, Some, option_map}
 use Rattle.std.specs.Ordering.{int_eq}
 use Rattle.sqlite_value.specs.Order.{Row, column, bytes}
 use Rattle.sqlite_rules.specs.Edit.{id_in}
-use Rattle.lab_forms.specs.declared.forms.Field.{Field}
-use Rattle.lab_forms.specs.Forms.{FormSheet}
 use Rattle.lab_records_kept.specs.declared.records.FormVersion.{FormVersion}
-use Rattle.lab_store_tables.specs.Rows.{FormRow, FieldRow, Tables, number_in, flag_in}
-use Rattle.lab_store_tables.specs.Columns.{kind_in}
-use Rattle.lab_store_tables.specs.Meaning.{fields_of, names_of, form_in}
-use Rattle.lab_store_read_forms.specs.Kinds.{kind_with}
-use Rattle.lab_store_read_forms.specs.KindsShown.{kind_cells}
+use Rattle.lab_store_tables.specs.Rows.{FormRow, FieldRow, Tables, number_in}
+use Rattle.lab_store_tables.specs.Meaning.{form_in}
+use Rattle.lab_store_read_forms.specs.declared.heads.FieldHead.{FieldHead}
+use Rattle.lab_store_read_forms.specs.declared.heads.FormHead.{FormHead}
+use Rattle.lab_store_read_forms.specs.declared.heads.FormAt.{FormAt}
+use Rattle.lab_store_read_forms.specs.Forms.{form_head, form_by}
 use Rattle.lab_move_tables.specs.declared.older.Older.{Older}
 use Rattle.lab_move_tables.specs.declared.older.Older.TheVariants.{Two}
 use Rattle.lab_move_tables.specs.Owned.{own_forms, own_fields}
 use Rattle.lab_move_tables.specs.KeptLabs.{run, next_of, are_kept_names, are_kept_fields}
-use Rattle.lab_move_read_records.specs.declared.heads.FieldHead.{FieldHead}
-use Rattle.lab_move_read_records.specs.declared.heads.FormHead.{FormHead}
-use Rattle.lab_move_read_records.specs.declared.heads.FormAt.{FormAt}
-use Rattle.lab_move_read_people.specs.Kept.{where_kept}
 
 -- ---- fields
-
-abbrev pub field_read : Row → FieldHead
-field_read row = record {
-  id = id_in (column row 0);
-  key = bytes (column row 1);
-  label = bytes (column row 2);
-  required = flag_in (column row 3);
-  kind = kind_in (kind_cells row) [];
-}
-
-abbrev pub field_head : FieldRow → FieldHead
-field_head one = record {
-  id = one.id;
-  key = one.key;
-  label = one.label;
-  required = one.required;
-  kind = kind_in one.kind [];
-}
-
--- with the names
-abbrev pub field_with : FieldHead → List (List ℕ) → Field
-field_with head names = record {
-  key = head.key;
-  label = head.label;
-  required = head.required;
-  kind = kind_with head.kind names;
-}
-
--- the field that has the row, with its choices
-abbrev pub field_by : Tables → FieldHead → Field
-field_by t head = record {
-  key = head.key;
-  label = head.label;
-  required = head.required;
-  kind = kind_with head.kind (names_of t head.id);
-}
 
 abbrev pub is_kept_field_head : Tables → FieldHead → Bool
 is_kept_field_head t head = are_kept_names t head.id
 
-abbrev pub field_heads_tried : Tables → ℤ → Option (List FieldHead)
-field_heads_tried t form =
-    where_kept (run (λ (field : FieldRow). field.place) (own_fields t form))
-    (map field_head (own_fields t form))
+-- the places of the fields of a version of a form
+abbrev pub are_kept_places : Tables → ℤ → Bool
+are_kept_places t form = run (λ (field : FieldRow). field.place) (own_fields t form)
 
 -- ---- versions of forms
 
@@ -81,37 +39,11 @@ form_read older row = record {
   approval = approval_in older row;
 }
 
-abbrev pub form_head : FormRow → FormHead
-form_head one = record {
-  id = one.id;
-  code = one.code;
-  version = one.version;
-  approval = one.approval;
-}
-
 abbrev pub form_heads_of : Tables → ℤ → List FormHead
 form_heads_of t lab = map form_head (own_forms t lab)
 
--- of these fields, and whether it wants an approval
-abbrev pub form_made : List Field → Bool → FormSheet
-form_made fields approval = record { fields = fields; approval = approval }
-
--- of these fields
-abbrev pub form_with : FormHead → List Field → FormAt
-form_with head fields = record {
-  id = head.id;
-  form = record { code = head.code; version = head.version; form = form_made fields head.approval };
-}
-
 abbrev pub form_at_by : Tables → FormHead → FormAt
-form_at_by t head = record {
-  id = head.id;
-  form = record {
-    code = head.code;
-    version = head.version;
-    form = form_made (fields_of t head.id) head.approval;
-  };
-}
+form_at_by t head = record { id = head.id; form = form_by t head }
 
 abbrev pub is_kept_form_head : Tables → FormHead → Bool
 is_kept_form_head t head = are_kept_fields t head.id

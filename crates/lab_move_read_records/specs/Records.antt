@@ -1,6 +1,6 @@
 -- Records, versions, entries and signatures as they are read: each row by its id, what stands in
 -- rows of their own put together, and whether the rows are well kept.
-use Rattle.std.specs.Prelude.{ℕ, ℤ, Bool, true, false, ◌&&◌, ◌==◌, nat_le, List, [], map, Option, Some, None, option_map, option_and_then, unwrap_or, is_some, bytes_eq, length}
+use Rattle.std.specs.Prelude.{ℕ, ℤ, Bool, false, ◌&&◌, nat_le, List, [], map, Option, Some, None, option_and_then, unwrap_or, is_some, bytes_eq, if◌then◌else◌}
 use Rattle.std.specs.List.{list_all}
 use Rattle.std.specs.Ordering.{int_eq}
 use Rattle.sqlite_value.specs.Order.{Row, column, bytes}
@@ -9,23 +9,20 @@ use Rattle.lab_seal_versions.specs.declared.rows.EntryRow.{EntryRow as Entry}
 use Rattle.lab_records_kept.specs.declared.records.Signature.{Signature}
 use Rattle.lab_records_kept.specs.declared.records.FormVersion.{FormVersion}
 use Rattle.lab_records_kept.specs.declared.records.Record.{Record}
-use Rattle.lab_store_tables.specs.Rows.{RecordRow, VersionRow, Tables, number_in}
+use Rattle.lab_store_tables.specs.Rows.{VersionRow, Tables, number_in}
 use Rattle.lab_store_tables.specs.Columns.{meaning_in}
 use Rattle.lab_store_tables.specs.Meaning.{Leaf, code_of, entries_of, signatures_of, leaves_of}
 use Rattle.lab_store_read_records.specs.declared.heads.RecordHead.{RecordHead}
-use Rattle.lab_store_read_records.specs.declared.leaves.VersionLeaf.{VersionLeaf}
 use Rattle.lab_store_read_records.specs.Heads.{record_head}
-use Rattle.lab_store_read_records.specs.Leaves.{leaf_of}
 use Rattle.lab_store_read_forms.specs.Wholes.{record_with}
 use Rattle.lab_move_tables.specs.declared.older.Older.{Older}
 use Rattle.lab_move_tables.specs.declared.older.Older.TheVariants.{Two}
 use Rattle.lab_move_tables.specs.OldRows.{reason_in}
 use Rattle.lab_move_tables.specs.Owned.{own_records, own_versions, lab_of}
-use Rattle.lab_move_tables.specs.KeptLabs.{are_kept_entries, are_kept_signatures, are_so_many, are_kept_versions, are_so_many_records}
-use Rattle.lab_move_read_records.specs.declared.heads.FormAt.{FormAt}
+use Rattle.lab_move_tables.specs.KeptLabs.{are_kept_entries, are_kept_signatures, are_kept_versions, are_so_many_records}
+use Rattle.lab_store_read_forms.specs.declared.heads.FormAt.{FormAt}
 use Rattle.lab_move_read_records.specs.declared.heads.VersionHead.{VersionHead}
 use Rattle.lab_move_read_records.specs.Forms.{form_among}
-use Rattle.lab_move_read_people.specs.Kept.{where_kept}
 
 -- ---- entries and signatures
 
@@ -89,49 +86,20 @@ leaf_by t head = record {
   signatures = signatures_of t head.id;
 }
 
--- of these entries and signatures, where the one who opened it is of the laboratory
-abbrev pub leaf_of_rows : VersionHead → List Entry → List Signature → Leaf
-leaf_of_rows head rows signatures = record {
-  number = head.number;
-  format = head.format;
-  opener = head.opener;
-  opened = head.opened;
-  reason = head.reason;
-  rows = rows;
-  signatures = signatures;
-}
-
-abbrev pub leaf_with : ℤ → VersionHead → Option (List Entry) → Option (List Signature)
-    → Option Leaf
-leaf_with lab head (Some rows) (Some signatures) =
-    where_kept (int_eq head.lab lab) (leaf_of_rows head rows signatures)
-leaf_with lab head _ _ = None
-
 abbrev pub is_kept_leaf : Tables → ℤ → VersionHead → Bool
 is_kept_leaf t lab head =
     int_eq head.lab lab && are_kept_entries t lab head.id && are_kept_signatures t lab head.id
 
-abbrev pub version_heads_tried : Tables → ℤ → ℕ → Option (List VersionHead)
-version_heads_tried t kept count =
-    where_kept (are_so_many t kept count) (map (version_head t) (own_versions t kept))
-
-abbrev pub leaves_in : Option (List VersionLeaf) → Option (List Leaf)
-leaves_in found = option_map (map leaf_of) found
+abbrev pub version_heads_of : Tables → ℤ → List VersionHead
+version_heads_of t kept = map (version_head t) (own_versions t kept)
 
 -- ---- records
 
 -- the form of a record, if it is one of these and has the code that the record's row names
 abbrev pub named_form : List FormAt → RecordHead → Option FormVersion
 named_form forms head =
-    option_and_then (λ (form : FormVersion). where_kept (bytes_eq form.code head.form_code) form)
-    (form_among forms head.form)
-
--- of a form and versions, where there are some
-abbrev pub record_if : List ℕ → RecordHead → Option FormVersion → Option (List Leaf)
-    → Option Record
-record_if code head (Some form) (Some leaves) =
-    where_kept (nat_le 1 head.current) (record_with code head form leaves)
-record_if code head _ _ = None
+    option_and_then (λ (form : FormVersion).
+    if bytes_eq form.code head.form_code then Some form else None) (form_among forms head.form)
 
 abbrev no_form : FormVersion
 no_form = record { code = []; version = 0; form = record { fields = []; approval = false } }
@@ -145,15 +113,14 @@ abbrev pub record_by : Tables → List ℕ → List FormAt → RecordHead → Re
 record_by t code forms head =
     record_with code head (unwrap_or (named_form forms head) no_form) (leaves_of t head.id)
 
-abbrev pub record_heads_tried : Tables → ℤ → ℕ → Option (List RecordHead)
-record_heads_tried t lab count =
-    where_kept (are_so_many_records t lab count) (map record_head (own_records t lab))
+abbrev pub record_heads_of : Tables → ℤ → List RecordHead
+record_heads_of t lab = map record_head (own_records t lab)
 
 abbrev pub are_kept_records_by : Tables → ℤ → List FormAt → ℕ → Bool
 are_kept_records_by t lab forms count =
     are_so_many_records t lab count
-    && list_all (is_kept_record_head t lab forms) (map record_head (own_records t lab))
+    && list_all (is_kept_record_head t lab forms) (record_heads_of t lab)
 
 abbrev pub records_by : Tables → ℤ → List ℕ → List FormAt → List Record
 records_by t lab code forms =
-    map (record_by t code forms) (map record_head (own_records t lab))
+    map (record_by t code forms) (record_heads_of t lab)

@@ -3,11 +3,11 @@
 ghost use Rattle.std.specs.Prelude.{◌≡◌, ◌&&◌, length, map, IfOk};
 ghost use Rattle.lab_store_tables.specs.Meaning.{entries_of};
 ghost use Rattle.lab_move_tables.specs.KeptLabs.{are_kept_entries};
-ghost use Rattle.lab_move_tables.specs.Reading.{ReadsOld};
 ghost use Rattle.lab_move_tables.specs.Checks.{are_owned};
-ghost use Rattle.lab_move_read_people.specs.Kept.{where_kept, are_counted};
+ghost use Rattle.lab_move_read_people.specs.Kept.{IsTried, TriesOld, are_counted};
 ghost use Rattle.lab_move_read_records.specs.Records.{entry_read};
 
+use lab_move_read_people::KeptFault;
 use lab_move_read_people::cells::{are_counted, reason_of};
 use lab_move_tables::{are_owned, entry_places, entry_rows};
 use lab_seal_versions::{EntryRow, EntryRows};
@@ -47,38 +47,39 @@ fn entries_of_rows(alloc: Global, rows: &[Row]) -> Result<Vec<EntryRow>, ReadFau
     Ok(made)
 }
 
-// The entries that rows show, where they are as many as the places, are numbered, and their persons are of the laboratory.
+// The entries that rows show. The rows have to be as many as the places, numbered, and of persons of
+// the laboratory.
 fn entries_tried(
     alloc: Global,
     rows: &[Row],
     places: &[Row],
     lab: i64,
-) -> Result<Option<EntryRows>, ReadFault>
-    ensures { IfOk result (λ found. found ≡ where_kept
-        (are_counted 6 (length places.now) rows.now && are_owned 7 lab rows.now) (map entry_read rows.now)) }
+) -> Result<EntryRows, KeptFault>
+    ensures { IsTried (are_counted 6 (length places.now) rows.now && are_owned 7 lab rows.now)
+        (λ made. made ≡ map entry_read rows.now) result }
 {
     if !are_counted(rows, 6, places.len() as u64)? {
-        return Ok(None);
+        return Err(KeptFault::NotKept);
     }
     if !are_owned(rows, 7, lab)? {
-        return Ok(None);
+        return Err(KeptFault::NotKept);
     }
-    Ok(Some(EntryRows::new(entries_of_rows(alloc, rows)?)))
+    Ok(EntryRows::new(entries_of_rows(alloc, rows)?))
 }
 
-/// The entries of the version with the id, in the order of their places, where these run from 1 on and their persons are of the
-/// laboratory. An entry whose person isn't there is missing among the rows, and not among the places.
+/// Returns the entries of the version with the id, in the order of their places. An entry whose
+/// person isn't there is missing among the rows, and not among the places.
 ///
 /// # Errors
-/// The store refused, a row is none that is written, or memory ran out.
+/// They aren't well kept, the store failed, a row isn't one that a program could have written, or
+/// memory ran out.
 pub(crate) fn entries_at<D: Readable>(
     alloc: Global,
     conn: &mut D,
     lab: i64,
     version: i64,
-) -> Result<Option<EntryRows>, ReadFault>
-    ensures { ReadsOld (λ t found. found
-        ≡ where_kept (are_kept_entries t lab version) (entries_of t version))
+) -> Result<EntryRows, KeptFault>
+    ensures { TriesOld (λ t. are_kept_entries t lab version) (λ t made. made ≡ entries_of t version)
         (D.state conn.old) (D.state conn.new) result }
 {
     let rows = entry_rows(conn, version)?;

@@ -1,22 +1,24 @@
 //! The versions of forms of a laboratory, with their fields, by the ids of their rows.
 
-ghost use Rattle.std.specs.Prelude.{◌≡◌, None, find, map, option_map, IfOk, IfSome};
+ghost use Rattle.std.specs.Prelude.{◌≡◌, Some, None, find, map, is_some, IfOk};
 ghost use Rattle.std.specs.Option.{option_copied};
 ghost use Rattle.std.specs.List.{list_all};
 ghost use Rattle.std.specs.Ordering.{int_eq};
 ghost use Rattle.lab_move_tables.specs.KeptLabs.{are_kept_forms};
-ghost use Rattle.lab_move_tables.specs.Reading.{ReadsBy, ReadsOld};
-ghost use Rattle.lab_move_read_people.specs.Kept.{where_kept};
-ghost use Rattle.lab_move_read_records.specs.Forms.{form_read, form_heads_of, form_at_by, form_of, form_with, form_made, form_follows, forms_run, forms_at_of, form_among, is_kept_form_head};
+ghost use Rattle.lab_move_tables.specs.Reading.{ReadsBy};
+ghost use Rattle.lab_move_read_people.specs.Kept.{IsTried, TriesBy, TriesOld};
+ghost use Rattle.lab_move_read_records.specs.Forms.{form_read, form_heads_of, form_at_by, form_of, form_follows, forms_run, forms_at_of, is_kept_form_head};
+ghost use Rattle.lab_move_read_records.specs.Records.{named_form};
 
 use crate::fields::fields_at;
-use crate::heads::{FormAt, FormHead};
-use lab_forms::{Field, Form};
 use lab_forms_texts::Series;
+use lab_move_read_people::KeptFault;
 use lab_move_tables::{Older, form_rows};
 use lab_records_kept::FormVersion;
 use lab_store_read::cells::{id_of, ordinal_of, text_of};
-use lab_store_read::{BadStore, ReadFault, Readable};
+use lab_store_read::{ReadFault, Readable};
+use lab_store_read_forms::{FormAt, FormHead, form_made};
+use lab_store_read_records::RecordHead;
 use sqlite::Row;
 use std::alloc::Global;
 
@@ -63,71 +65,40 @@ fn form_heads_at<D: Readable>(
     forms_of_rows(alloc, older, &rows)
 }
 
-// The form of the fields. There may be none.
-fn form_made(fields: Vec<Field>, approval: bool) -> Option<Form>
-    ensures { IfSome result (λ form. form ≡ form_made fields.items approval) }
-{
-    match Form::make(fields, approval) {
-        Ok(form) => Some(form),
-        Err(_) => None,
-    }
-}
-
-// The version of a form of the fields, where these are there. Fields that no form may have are a fault of the store.
-fn form_with(head: FormHead, fields: Option<Series<Field>>) -> Result<Option<FormAt>, ReadFault>
-    ensures { IfOk result (λ found. found ≡ option_map (form_with head) fields) }
-{
-    match fields {
-        Some(fields) => {
-            let form = form_made(fields.into_vec(), head.approval).ok_or(ReadFault::Refused(
-                BadStore,
-            ))?;
-            Ok(Some(FormAt {
-                id: head.id,
-                form: FormVersion {
-                    code: head.code,
-                    version: head.version,
-                    form,
-                },
-            }))
-        }
-        None => Ok(None),
-    }
-}
-
-// The version of a form that has the row, with its fields, where their places run from 1 on. Fields that no form may have are a
-// fault of the store.
-fn form_whole<D: Readable>(
-    alloc: Global,
-    conn: &mut D,
-    head: FormHead,
-) -> Result<Option<FormAt>, ReadFault>
-    ensures { ReadsOld (λ t found. found
-        ≡ where_kept (is_kept_form_head t head) (form_at_by t head))
+// The version of a form that has the row, with its fields. It is a fault of the store if no form may
+// have these fields.
+fn form_whole<D: Readable>(alloc: Global, conn: &mut D, head: FormHead) -> Result<FormAt, KeptFault>
+    ensures { TriesOld (λ t. is_kept_form_head t head) (λ t form. form ≡ form_at_by t head)
         (D.state conn.old) (D.state conn.new) result }
 {
     let fields = fields_at(alloc, conn, head.id)?;
-    form_with(head, fields)
+    let form = form_made(fields.into_vec(), head.approval)?;
+    Ok(FormAt {
+        id: head.id,
+        form: FormVersion {
+            code: head.code,
+            version: head.version,
+            form,
+        },
+    })
 }
 
-// The versions of forms that have the rows, where the places of their fields run from 1 on.
+// The versions of forms that have the rows, with their fields.
 fn forms_whole<D: Readable>(
     alloc: Global,
     conn: &mut D,
     heads: Vec<FormHead>,
-) -> Result<Option<Series<FormAt>>, ReadFault>
-    ensures { ReadsOld (λ t found. found
-        ≡ where_kept (list_all (is_kept_form_head t) heads.items) (map (form_at_by t) heads.items))
+) -> Result<Series<FormAt>, KeptFault>
+    ensures { TriesOld (λ t. list_all (is_kept_form_head t) heads.items)
+        (λ t made. made ≡ map (form_at_by t) heads.items)
         (D.state conn.old) (D.state conn.new) result }
 {
     let mut made = Series::new(alloc);
     for head in heads {
-        let Some(form) = form_whole(alloc, conn, head)? else {
-            return Ok(None);
-        };
+        let form = form_whole(alloc, conn, head)?;
         made.push(form)?;
     }
-    Ok(Some(made))
+    Ok(made)
 }
 
 // Whether the version follows the one before, of its form or of another.
@@ -160,24 +131,24 @@ fn forms_run(heads: &[FormHead]) -> bool
     true
 }
 
-/// The versions of forms of the laboratory with the id, by the ids of their rows and in the order of codes and numbers, where
-/// they are well kept.
+/// Returns the versions of forms of the laboratory with the id, by the ids of their rows and in the
+/// order of codes and numbers.
 ///
 /// # Errors
-/// The store refused, a row is none that is written, or memory ran out.
+/// They aren't well kept, the store failed, a row isn't one that a program could have written, or
+/// memory ran out.
 pub fn forms_at<D: Readable>(
     alloc: Global,
     conn: &mut D,
     older: Older,
     lab: i64,
-) -> Result<Option<Series<FormAt>>, ReadFault>
-    ensures { ReadsBy older (λ t found. found
-        ≡ where_kept (are_kept_forms t lab) (forms_at_of t lab))
+) -> Result<Series<FormAt>, KeptFault>
+    ensures { TriesBy older (λ t. are_kept_forms t lab) (λ t made. made ≡ forms_at_of t lab)
         (D.state conn.old) (D.state conn.new) result }
 {
     let heads = form_heads_at(alloc, conn, older, lab)?;
     if !forms_run(&heads) {
-        return Ok(None);
+        return Err(KeptFault::NotKept);
     }
     forms_whole(alloc, conn, heads)
 }
@@ -189,20 +160,25 @@ fn form_with_id(forms: &[FormAt], id: i64) -> Option<&FormAt>
     forms.iter().find(|one| one.id == id)
 }
 
-/// The version of a form whose row has the id, if it is one of these.
+/// Returns the version of a form that the record follows, which has to be one of these and to have
+/// the code that the record's row names.
 ///
 /// # Errors
-/// Memory ran out.
-pub(crate) fn form_among(forms: &[FormAt], id: i64) -> Result<Option<FormVersion>, ReadFault>
-    ensures { IfOk result (λ found. found ≡ form_among forms.now id) }
+/// It isn't, or memory ran out.
+pub(crate) fn named_form(forms: &[FormAt], head: &RecordHead) -> Result<FormVersion, KeptFault>
+    ensures { IsTried (is_some (named_form forms.now head.now))
+        (λ form. Some form ≡ named_form forms.now head.now) result }
 {
-    match form_with_id(forms, id) {
-        Some(one) => Ok(Some(one.form.clone()?)),
-        None => Ok(None),
+    let Some(one) = form_with_id(forms, head.form) else {
+        return Err(KeptFault::NotKept);
+    };
+    if one.form.code.as_str() != head.form_code.as_str() {
+        return Err(KeptFault::NotKept);
     }
+    Ok(one.form.clone()?)
 }
 
-/// The versions of forms, without the ids of their rows.
+/// Returns the versions of forms, without the ids of their rows.
 ///
 /// # Errors
 /// Memory ran out.

@@ -1,23 +1,20 @@
 //! The versions of a record, each as its own rows tell it.
 
-ghost use Rattle.std.specs.Prelude.{◌≡◌, map, option_map, IfOk};
+ghost use Rattle.std.specs.Prelude.{◌≡◌, map, IfOk};
 ghost use Rattle.std.specs.List.{list_all};
-ghost use Rattle.std.specs.Ordering.{int_eq};
 ghost use Rattle.lab_store_tables.specs.Meaning.{leaves_of};
 ghost use Rattle.lab_store_read_records.specs.Leaves.{leaf_of};
-ghost use Rattle.lab_move_tables.specs.KeptLabs.{are_kept_versions};
-ghost use Rattle.lab_move_tables.specs.Reading.{ReadsBy, ReadsOld};
-ghost use Rattle.lab_move_read_people.specs.Kept.{where_kept, are_counted};
-ghost use Rattle.lab_move_read_records.specs.Records.{version_read, leaf_of_rows, leaf_with, leaf_by, is_kept_leaf, version_heads_tried, leaves_in};
+ghost use Rattle.lab_move_tables.specs.KeptLabs.{are_kept_versions, are_so_many};
+ghost use Rattle.lab_move_read_people.specs.Kept.{IsTried, TriesBy, TriesOld, are_counted};
+ghost use Rattle.lab_move_read_records.specs.Records.{version_read, version_heads_of, leaf_by, is_kept_leaf};
 
 use crate::entries::entries_at;
 use crate::heads::VersionHead;
 use crate::signatures::signatures_at;
 use lab_forms_texts::{Ordinal, Series};
+use lab_move_read_people::KeptFault;
 use lab_move_read_people::cells::{are_counted, reason_of};
 use lab_move_tables::{Older, version_rows};
-use lab_records_kept::Signature;
-use lab_seal_versions::EntryRows;
 use lab_store_read::cells::{id_of, moment_of, ordinal_of, text_of};
 use lab_store_read::{BadStore, ReadFault, Readable};
 use lab_store_read_records::VersionLeaf;
@@ -66,121 +63,90 @@ fn versions_of_rows(
     Ok(made)
 }
 
-// The versions that rows show, where they are so many and are numbered.
+// The versions that rows show. The rows have to be so many, and numbered.
 fn versions_tried(
     alloc: Global,
     older: Older,
     rows: &[Row],
     count: u32,
-) -> Result<Option<Series<VersionHead>>, ReadFault>
-    ensures { IfOk result (λ found. found
-        ≡ where_kept (are_counted 1 count rows.now) (map (version_read older) rows.now)) }
+) -> Result<Vec<VersionHead>, KeptFault>
+    ensures { IsTried (are_counted 1 count rows.now)
+        (λ made. made.items ≡ map (version_read older) rows.now) result }
 {
     if !are_counted(rows, 1, u64::from(count))? {
-        return Ok(None);
+        return Err(KeptFault::NotKept);
     }
-    Ok(Some(Series::from_vec(versions_of_rows(alloc, older, rows)?)))
+    Ok(versions_of_rows(alloc, older, rows)?)
 }
 
-// The own rows of the versions of the record with the id, where they are so many and are numbered.
+// The own rows of the versions of the record with the id. They have to be so many, and numbered.
 fn version_heads_at<D: Readable>(
     alloc: Global,
     conn: &mut D,
     older: Older,
     kept: i64,
     count: u32,
-) -> Result<Option<Series<VersionHead>>, ReadFault>
-    ensures { ReadsBy older (λ t found. found ≡ version_heads_tried t kept count)
+) -> Result<Vec<VersionHead>, KeptFault>
+    ensures { TriesBy older (λ t. are_so_many t kept count)
+        (λ t made. made.items ≡ version_heads_of t kept)
         (D.state conn.old) (D.state conn.new) result }
 {
     let rows = version_rows(conn, older, kept)?;
     versions_tried(alloc, older, &rows, count)
 }
 
-// The version of the row, with its entries and signatures, where it was opened by one of the laboratory.
-fn leaf_if(
-    lab: i64,
-    head: VersionHead,
-    rows: EntryRows,
-    signatures: Series<Signature>,
-) -> Option<VersionLeaf>
-    ensures { option_map leaf_of result
-        ≡ where_kept (int_eq head.lab lab) (leaf_of_rows head rows signatures) }
-{
-    if head.lab == lab {
-        Some(VersionLeaf {
-            number: head.number,
-            format: head.format,
-            opener: head.opener,
-            opened: head.opened,
-            reason: head.reason,
-            rows,
-            signatures,
-        })
-    } else {
-        None
-    }
-}
-
-// The version of the row, with its entries and signatures, where these are there and it was opened by one of the laboratory.
-fn leaf_with(
-    lab: i64,
-    head: VersionHead,
-    rows: Option<EntryRows>,
-    signatures: Option<Series<Signature>>,
-) -> Option<VersionLeaf>
-    ensures { option_map leaf_of result ≡ leaf_with lab head rows signatures }
-{
-    match rows {
-        Some(rows) => match signatures {
-            Some(signatures) => leaf_if(lab, head, rows, signatures),
-            None => None,
-        },
-        None => None,
-    }
-}
-
-// The version of the row, with its entries and signatures, where they are well kept and it was opened by one of the laboratory.
+// The version of the row, with its entries and signatures. A person of the laboratory has to have
+// opened it.
 fn leaf_whole<D: Readable>(
     alloc: Global,
     conn: &mut D,
     lab: i64,
     head: VersionHead,
-) -> Result<Option<VersionLeaf>, ReadFault>
-    ensures { ReadsOld (λ t found. option_map leaf_of found
-        ≡ where_kept (is_kept_leaf t lab head) (leaf_by t head))
+) -> Result<VersionLeaf, KeptFault>
+    ensures { TriesOld (λ t. is_kept_leaf t lab head) (λ t leaf. leaf_of leaf ≡ leaf_by t head)
         (D.state conn.old) (D.state conn.new) result }
 {
+    if head.lab != lab {
+        return Err(KeptFault::NotKept);
+    }
     let rows = entries_at(alloc, conn, lab, head.id)?;
     let signatures = signatures_at(alloc, conn, lab, head.id)?;
-    Ok(leaf_with(lab, head, rows, signatures))
+    Ok(VersionLeaf {
+        number: head.number,
+        format: head.format,
+        opener: head.opener,
+        opened: head.opened,
+        reason: head.reason,
+        rows,
+        signatures,
+    })
 }
 
-// The versions of the rows, where they are well kept.
+// The versions of the rows, with their entries and signatures.
 fn leaves_whole<D: Readable>(
     alloc: Global,
     conn: &mut D,
     lab: i64,
     heads: Vec<VersionHead>,
-) -> Result<Option<Series<VersionLeaf>>, ReadFault>
-    ensures { ReadsOld (λ t found. leaves_in found
-        ≡ where_kept (list_all (is_kept_leaf t lab) heads.items) (map (leaf_by t) heads.items))
+) -> Result<Series<VersionLeaf>, KeptFault>
+    ensures { TriesOld (λ t. list_all (is_kept_leaf t lab) heads.items)
+        (λ t made. map leaf_of made ≡ map (leaf_by t) heads.items)
         (D.state conn.old) (D.state conn.new) result }
 {
     let mut made = Series::new(alloc);
     for head in heads {
-        let Some(leaf) = leaf_whole(alloc, conn, lab, head)? else {
-            return Ok(None);
-        };
+        let leaf = leaf_whole(alloc, conn, lab, head)?;
         made.push(leaf)?;
     }
-    Ok(Some(made))
+    Ok(made)
 }
 
-/// The versions of the record with the id, in the order of their numbers, where they are so many and well kept.
+/// Returns the versions of the record with the id, in the order of their numbers. They have to be
+/// so many.
 ///
 /// # Errors
-/// The store refused, a row is none that is written, or memory ran out.
+/// They aren't well kept, the store failed, a row isn't one that a program could have written, or
+/// memory ran out.
 pub(crate) fn leaves_at<D: Readable>(
     alloc: Global,
     conn: &mut D,
@@ -188,14 +154,11 @@ pub(crate) fn leaves_at<D: Readable>(
     lab: i64,
     kept: i64,
     count: u32,
-) -> Result<Option<Series<VersionLeaf>>, ReadFault>
-    ensures { ReadsBy older (λ t found. leaves_in found
-        ≡ where_kept (are_kept_versions t lab kept count) (leaves_of t kept))
+) -> Result<Series<VersionLeaf>, KeptFault>
+    ensures { TriesBy older (λ t. are_kept_versions t lab kept count)
+        (λ t made. map leaf_of made ≡ leaves_of t kept)
         (D.state conn.old) (D.state conn.new) result }
 {
     let heads = version_heads_at(alloc, conn, older, kept, count)?;
-    match heads {
-        Some(heads) => leaves_whole(alloc, conn, lab, heads.into_vec()),
-        None => Ok(None),
-    }
+    leaves_whole(alloc, conn, lab, heads)
 }

@@ -7,10 +7,8 @@ mod fields;
 mod filed;
 mod forms;
 mod heads;
-mod kinds;
 mod leaves;
 mod signatures;
 
 pub use filed::records_at;
 pub use forms::{forms_alone, forms_at};
-pub use heads::FormAt;

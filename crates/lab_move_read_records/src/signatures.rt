@@ -6,12 +6,12 @@ ghost use Rattle.lab_store_tables.specs.Columns.{meaning_in};
 ghost use Rattle.lab_store_tables.specs.Meaning.{signatures_of};
 ghost use Rattle.lab_move_tables.specs.OldRows.{reason_in};
 ghost use Rattle.lab_move_tables.specs.KeptLabs.{are_kept_signatures};
-ghost use Rattle.lab_move_tables.specs.Reading.{ReadsOld};
 ghost use Rattle.lab_move_tables.specs.Checks.{are_owned};
-ghost use Rattle.lab_move_read_people.specs.Kept.{where_kept, are_counted};
+ghost use Rattle.lab_move_read_people.specs.Kept.{IsTried, TriesOld, are_counted};
 ghost use Rattle.lab_move_read_records.specs.Records.{signature_read};
 
 use lab_forms_texts::{Keys, Note, Series, Text};
+use lab_move_read_people::KeptFault;
 use lab_move_read_people::cells::{are_counted, reason_of};
 use lab_move_tables::{are_owned, signature_places, signature_rows};
 use lab_records_kept::Signature;
@@ -81,38 +81,40 @@ fn signatures_of_rows(alloc: Global, rows: &[Row]) -> Result<Vec<Signature>, Rea
     Ok(made)
 }
 
-// The signatures that rows show, where they are as many as the places, are numbered, and their persons are of the laboratory.
+// The signatures that rows show. The rows have to be as many as the places, numbered, and of persons
+// of the laboratory.
 fn signatures_tried(
     alloc: Global,
     rows: &[Row],
     places: &[Row],
     lab: i64,
-) -> Result<Option<Series<Signature>>, ReadFault>
-    ensures { IfOk result (λ found. found ≡ where_kept
-        (are_counted 7 (length places.now) rows.now && are_owned 8 lab rows.now) (map signature_read rows.now)) }
+) -> Result<Series<Signature>, KeptFault>
+    ensures { IsTried (are_counted 7 (length places.now) rows.now && are_owned 8 lab rows.now)
+        (λ made. made ≡ map signature_read rows.now) result }
 {
     if !are_counted(rows, 7, places.len() as u64)? {
-        return Ok(None);
+        return Err(KeptFault::NotKept);
     }
     if !are_owned(rows, 8, lab)? {
-        return Ok(None);
+        return Err(KeptFault::NotKept);
     }
-    Ok(Some(Series::from_vec(signatures_of_rows(alloc, rows)?)))
+    Ok(Series::from_vec(signatures_of_rows(alloc, rows)?))
 }
 
-/// The signatures of the version with the id, in the order of their places, where these run from 1 on and their persons are of
-/// the laboratory. A signature whose person isn't there is missing among the rows, and not among the places.
+/// Returns the signatures of the version with the id, in the order of their places. A signature
+/// whose person isn't there is missing among the rows, and not among the places.
 ///
 /// # Errors
-/// The store refused, a row is none that is written, or memory ran out.
+/// They aren't well kept, the store failed, a row isn't one that a program could have written, or
+/// memory ran out.
 pub(crate) fn signatures_at<D: Readable>(
     alloc: Global,
     conn: &mut D,
     lab: i64,
     version: i64,
-) -> Result<Option<Series<Signature>>, ReadFault>
-    ensures { ReadsOld (λ t found. found
-        ≡ where_kept (are_kept_signatures t lab version) (signatures_of t version))
+) -> Result<Series<Signature>, KeptFault>
+    ensures { TriesOld (λ t. are_kept_signatures t lab version)
+        (λ t made. made ≡ signatures_of t version)
         (D.state conn.old) (D.state conn.new) result }
 {
     let rows = signature_rows(conn, version)?;

@@ -28,8 +28,11 @@ fn name_rows<D: Readable>(conn: &mut D, field: i64) -> Result<Vec<Row>, ReadFaul
     )
 }
 
-// The names that rows show.
-fn names_of_rows(alloc: Global, rows: &[Row]) -> Result<Vec<Name>, ReadFault>
+/// Returns the names that rows show.
+///
+/// # Errors
+/// The store failed, a row isn't one that this program could have written, or memory ran out.
+pub fn names_of_rows(alloc: Global, rows: &[Row]) -> Result<Vec<Name>, ReadFault>
     ensures value { IfOk result (λ made. made.items ≡ map name_read rows.now) }
     ensures fault { IfErr result (λ fault. fault ≡ storage → ¬ All HasName rows.now) }
 {

@@ -84,8 +84,11 @@ fn form_head_at<D: Readable>(
     first_form(alloc, &rows)
 }
 
-// The form with the fields. It is a fault of the store if they make no form.
-fn form_made(fields: Vec<Field>, approval: bool) -> Result<Form, ReadFault>
+/// Returns the form with the fields. It is a fault of the store if they make no form.
+///
+/// # Errors
+/// The fields make no form.
+pub fn form_made(fields: Vec<Field>, approval: bool) -> Result<Form, ReadFault>
     ensures value { IfOk result
         (λ form. form ≡ record { fields = fields.items; approval = approval }) }
     ensures fault { IfErr result (λ fault. fault ≡ storage → ¬ IsTrue (is_form fields.items)) }

@@ -14,8 +14,10 @@ mod heads;
 mod kinds;
 mod wholes;
 
+pub use choices::names_of_rows;
 pub use filed::{about_at, filed_within, numbered_at};
-pub use forms::{first_form, form_at, form_of_row, form_whole};
+pub use forms::{first_form, form_at, form_made, form_of_row, form_whole};
 pub use forms_by_code::{exact_form_at, last_form_at};
-pub use heads::FormHead;
+pub use heads::{FieldHead, FormAt, FormHead};
+pub use kinds::{kind_of_row, kind_with};
 pub use wholes::record_whole;

@@ -17,7 +17,7 @@ use sqlite::types::ValueRef;
 ///
 /// # Errors
 /// The column holds neither NULL nor a moment.
-pub(crate) fn moment_if(row: &Row, at: usize) -> Result<Option<Moment>, ReadFault>
+pub fn moment_if(row: &Row, at: usize) -> Result<Option<Moment>, ReadFault>
     ensures value { IfOk result (λ moment. moment ≡ optional_in number_in (column row.now at)) }
     ensures shown { IfOk result (λ moment. slice_get row.now at ≡ Some (optional number moment)) }
     ensures fault { IfErr result
@@ -34,7 +34,7 @@ pub(crate) fn moment_if(row: &Row, at: usize) -> Result<Option<Moment>, ReadFaul
 ///
 /// # Errors
 /// The column holds no moment.
-pub(crate) fn moment_due(row: &Row, at: usize) -> Result<Moment, ReadFault>
+pub fn moment_due(row: &Row, at: usize) -> Result<Moment, ReadFault>
     ensures value { IfOk result
         (λ moment. moment ≡ unwrap_or (optional_in number_in (column row.now at)) 0) }
     ensures fault { IfErr result (IsNotRead (stands (is_number is_moment) row.now at)) }
@@ -49,7 +49,7 @@ pub(crate) fn moment_due(row: &Row, at: usize) -> Result<Moment, ReadFault>
 ///
 /// # Errors
 /// The column holds no number of at most 32 bits.
-pub(crate) fn small_due(row: &Row, at: usize) -> Result<u32, ReadFault>
+pub fn small_due(row: &Row, at: usize) -> Result<u32, ReadFault>
     ensures value { IfOk result
         (λ count. count ≡ unwrap_or (optional_in number_in (column row.now at)) 0) }
     ensures shown { IfOk result (λ count. slice_get row.now at ≡ Some (number count)) }
@@ -65,7 +65,7 @@ pub(crate) fn small_due(row: &Row, at: usize) -> Result<u32, ReadFault>
 ///
 /// # Errors
 /// The column doesn't hold 16 bytes.
-pub(crate) fn salt_due(row: &Row, at: usize) -> Result<[u8; 16], ReadFault>
+pub fn salt_due(row: &Row, at: usize) -> Result<[u8; 16], ReadFault>
     ensures value { IfOk result
         (λ salt. salt ≡ unwrap_or (optional_in bytes (column row.now at)) []) }
     ensures fault { IfErr result (IsNotRead (stands is_salt row.now at)) }
@@ -83,7 +83,7 @@ pub(crate) fn salt_due(row: &Row, at: usize) -> Result<[u8; 16], ReadFault>
 ///
 /// # Errors
 /// The column doesn't hold 32 bytes.
-pub(crate) fn bytes_due(row: &Row, at: usize) -> Result<[u8; 32], ReadFault>
+pub fn bytes_due(row: &Row, at: usize) -> Result<[u8; 32], ReadFault>
     ensures value { IfOk result
         (λ made. made ≡ unwrap_or (optional_in bytes (column row.now at)) []) }
     ensures fault { IfErr result (IsNotRead (stands is_digest row.now at)) }

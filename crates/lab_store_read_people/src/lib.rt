@@ -3,7 +3,7 @@
 #![tactic(auto)]
 
 mod asking;
-mod cells;
+pub mod cells;
 mod counts;
 mod heads;
 mod passwords;
@@ -12,5 +12,6 @@ mod sessions;
 
 pub use counts::person_count;
 pub use heads::{AskHead, PersonHead};
+pub use passwords::roles_of;
 pub use persons::{person_at, persons_at};
 pub use sessions::session_at;

@@ -21,7 +21,7 @@ use lab_store_read::{BadStore, ReadFault};
 use sqlite::Row;
 
 /// Returns the roles that a sum stands for.
-pub(crate) fn roles_of(sum: u32) -> Roles
+pub fn roles_of(sum: u32) -> Roles
     ensures { result ≡ roles_in sum }
 {
     Roles {

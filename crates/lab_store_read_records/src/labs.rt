@@ -62,8 +62,11 @@ fn lab_of_row(alloc: Global, row: &Row) -> Result<LabHead, ReadFault>
     })
 }
 
-// The laboratory that the first row shows.
-fn first_lab(alloc: Global, rows: &[Row]) -> Result<Option<LabHead>, ReadFault>
+/// Returns the laboratory that the first row shows, if there is a row.
+///
+/// # Errors
+/// The store failed, a row isn't one that this program could have written, or memory ran out.
+pub fn first_lab(alloc: Global, rows: &[Row]) -> Result<Option<LabHead>, ReadFault>
     ensures value { IfOk result (λ lab. lab ≡ option_map lab_read (slice_get rows.now 0)) }
     ensures fault { IfErr result (λ fault. fault ≡ storage → ¬ HasFirst HasLab rows.now) }
 {

@@ -81,8 +81,11 @@ fn within_rows<D: Readable>(
     )
 }
 
-// The records that rows show.
-fn records_of_rows(alloc: Global, rows: &[Row]) -> Result<Vec<RecordHead>, ReadFault>
+/// Returns the records that rows show.
+///
+/// # Errors
+/// The store failed, a row isn't one that this program could have written, or memory ran out.
+pub fn records_of_rows(alloc: Global, rows: &[Row]) -> Result<Vec<RecordHead>, ReadFault>
     ensures value { IfOk result (λ made. made.items ≡ map record_head_of rows.now) }
     ensures fault { IfErr result (λ fault. fault ≡ storage → ¬ All HasRecord rows.now) }
 {

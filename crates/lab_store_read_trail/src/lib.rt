@@ -8,4 +8,4 @@ mod heads;
 mod trails;
 
 pub use heads::ToldHead;
-pub use trails::trail_within;
+pub use trails::{told_of_rows, trail_within};

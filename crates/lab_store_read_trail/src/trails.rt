@@ -57,8 +57,11 @@ fn told_of_row(alloc: Global, row: &Row) -> Result<ToldHead, ReadFault>
     })
 }
 
-// What the rows show.
-fn told_of_rows(alloc: Global, rows: &[Row]) -> Result<Vec<ToldHead>, ReadFault>
+/// Returns what the rows show.
+///
+/// # Errors
+/// The store failed, a row isn't one that this program could have written, or memory ran out.
+pub fn told_of_rows(alloc: Global, rows: &[Row]) -> Result<Vec<ToldHead>, ReadFault>
     ensures value { IfOk result (λ made. made.items ≡ map told_read rows.now) }
     ensures fault { IfErr result (λ fault. fault ≡ storage → ¬ All HasTold rows.now) }
 {

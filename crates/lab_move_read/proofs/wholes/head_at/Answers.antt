@@ -10,4 +10,4 @@ pub returns : goal.returns
 returns g c =
     may_and c.in_ok-rows.ensures (λ t file rows.
     if_then c.first_lab.result (λ found is. is ∙ ap (λ l. option_map lab_read (slice_get l 0)) (c.deref.ensures.value ∙ rows)
-    ∙ lab_found t c.as_str.result.now ∙ ap (head_of t) c.as_str.ensures.value) c.first_lab.ensures)
+    ∙ lab_found t c.as_str.result.now ∙ ap (head_of t) c.as_str.ensures.value) c.first_lab.ensures.value)

@@ -1,18 +1,40 @@
-use Rattle.std.proofs.Common.{w64, ◌∙◌, SFits, rules}
+use Rattle.std.proofs.Common.{w64, map, sym, ap, ◌∙◌, SFits, rules}
 use Rattle.std.proofs.lemmas.Int.{to_z-of_z}
-use Rattle.lab_store_read.proofs.Queries.{if_then}
-use Rattle.lab_move_tables.proofs.OldReaders.{may_both}
-use Rattle.lab_move_read_people.proofs.KeptLoops.{then_fails}
-use Rattle.lab_move_read.proofs.WholesFound.{work_done}
-use Rattle.lab_move_read.proofs.wholes.work_at.Goals as goal
 use Rattle.lab_store_tables.specs.Family.{Forms}
+use Rattle.lab_move_tables.proofs.OldReaders.{may_both}
+use Rattle.lab_move_read_people.specs.Kept.{found_of}
+use Rattle.lab_move_read_people.proofs.Found.{both_pass, first_fails, last_fails, found_ends, store_ends, then_ends}
+use Rattle.lab_move_read_people.proofs.KeptLoops.{then_fails}
+use Rattle.lab_move_read_records.specs.Forms.{form_of}
+use Rattle.lab_move_read_records.proofs.FormsFound.{forms_alone}
+use Rattle.lab_move_read.proofs.WholesFound.{records_tried, records_made}
+use Rattle.lab_move_read.proofs.wholes.work_at.Goals as goal
+
+pub returns-in_err-forms : goal.returns-in_err-forms
+returns-in_err-forms g c =
+    let id_fits : SFits w64 c.args.head.now.id = search rules in
+    found_ends c.in_err-forms.field-0.0 (rw (to_z-of_z w64 c.args.head.now.id id_fits) at c.in_err-forms.ensures) (λ t file fails. first_fails _ _ fails) c.from_residual.result c.from_residual.ensures.1
 
 pub returns-in_err-records : goal.returns-in_err-records
-returns-in_err-records g c = then_fails c.in_ok-forms.ensures c.records_if.ensures c.from_residual-in_err-records.result _ c.from_residual-in_err-records.ensures.1
+returns-in_err-records g c =
+    let head = c.args.head.now in
+    let id_fits : SFits w64 head.id = search rules in
+    then_ends (rw (to_z-of_z w64 head.id id_fits) at c.in_ok-forms.ensures) c.in_err-records.field-0.0 (rw (to_z-of_z w64 head.id id_fits) at c.in_err-records.ensures)
+    (λ t file forms fails. last_fails _ _ (sym (records_tried t (file.rising.at Forms) head _ (c.as_slice.ensures ∙ forms.1)) ∙ fails))
+    c.from_residual-in_err-records.result c.from_residual-in_err-records.ensures.1
+
+pub returns-in_err-alone : goal.returns-in_err-alone
+returns-in_err-alone g c =
+    then_fails c.in_ok-forms.ensures c.in_ok-records.ensures (found_of c.from_residual-in_err-alone.result) (λ _. Unit {0})
+    (store_ends c.in_err-alone.field-0.0 c.from_residual-in_err-alone.result c.from_residual-in_err-alone.ensures.1)
 
 pub returns : goal.returns
 returns g c =
     let head = c.args.head.now in
     let id_fits : SFits w64 head.id = search rules in
-    may_both (rw (to_z-of_z w64 head.id id_fits) at c.in_ok-forms.ensures) c.in_ok-records.ensures
-    (λ t file forms records. if_then c.work_with.result (λ found is. is ∙ work_done t (file.rising.at Forms) head c.in_ok-forms.forms c.in_ok-records.records forms records) c.work_with.ensures)
+    may_both (rw (to_z-of_z w64 head.id id_fits) at c.in_ok-forms.ensures) (rw (to_z-of_z w64 head.id id_fits) at c.in_ok-records.ensures) (λ t file forms records.
+    let rise = file.rising.at Forms in
+    let same = c.as_slice.ensures ∙ forms.1 in
+    let alone = c.in_ok-alone.ensures ∙ ap (map form_of) (c.into_vec.ensures ∙ forms.1) ∙ forms_alone t head.id in
+    let made = records.1 ∙ records_made t rise head _ same records.0 in
+    (both_pass _ _ forms.0 (sym (records_tried t rise head _ same) ∙ records.0), λ i. record { forms = alone i; records = made i }))

@@ -1,13 +1,26 @@
-use Rattle.std.proofs.Common.{w64, option_map, ap, ◌∙◌}
+use Rattle.std.proofs.Common.{w64, Option, ap}
 use Rattle.std.proofs.lemmas.Int.{to_z-of_z}
-use Rattle.lab_store_read_people.specs.Heads.{ask_by}
+use Rattle.lab_people_access.specs.declared.persons.Ask.{Ask}
+use Rattle.lab_people_access.specs.declared.persons.Person.{Person}
 use Rattle.lab_move_tables.proofs.OldReaders.{may_and}
-use Rattle.lab_move_read_people.specs.Persons.{person_with, is_kept_ask}
-use Rattle.lab_move_read_people.proofs.Conditions.{mapped_where}
+use Rattle.lab_move_read_people.proofs.Found.{found_ends}
 use Rattle.lab_move_read_people.proofs.people.person_whole.Goals as goal
+
+pub returns-in_err-ask : goal.returns-in_err-ask
+returns-in_err-ask g c =
+    found_ends c.in_err-ask.field-0.0 (rw (to_z-of_z w64 c.args.lab c.ranges.lab) at c.in_err-ask.ensures) (λ t file fails. fails) c.from_residual.result c.from_residual.ensures.1
 
 pub returns : goal.returns
 returns g c =
     let head = c.args.head in
-    may_and (rw (to_z-of_z w64 c.args.lab c.ranges.lab) at c.in_ok-ask.ensures) (λ t file is.
-    c.person_with.ensures ∙ ap (option_map (person_with head)) is ∙ mapped_where (person_with head) (is_kept_ask t c.args.lab head.ask) (option_map (ask_by t) head.ask))
+    let with : Option Ask → Person = λ ask. record {
+      code = head.code;
+      name = head.name;
+      roles = head.roles;
+      retired = head.retired;
+      failures = head.failures;
+      locked = head.locked;
+      password = head.password;
+      ask = ask;
+    } in
+    may_and (rw (to_z-of_z w64 c.args.lab c.ranges.lab) at c.in_ok-ask.ensures) (λ t file is. (is.0, ap with is.1))

@@ -1,10 +1,11 @@
-use Rattle.std.proofs.Common.{w64}
+use Rattle.std.proofs.Common.{w64, ◌∙◌}
 use Rattle.std.proofs.lemmas.Int.{to_z-of_z}
-use Rattle.lab_move_tables.proofs.OldReaders.{by_schema, may_then}
+use Rattle.lab_move_tables.proofs.OldReaders.{by_schema}
+use Rattle.lab_move_read_people.proofs.Found.{rows_then}
 use Rattle.lab_move_read_people.proofs.PeopleFound.{persons_done}
 use Rattle.lab_move_read_people.proofs.people.persons_at.Goals as goal
 
 pub returns : goal.returns
 returns g c =
-    may_then (rw (to_z-of_z w64 c.args.lab c.ranges.lab) at c.in_ok-heads.ensures) (by_schema (rw (to_z-of_z w64 c.args.lab c.ranges.lab) at c.persons_whole.ensures))
-    (λ t file given found is. persons_done t c.args.lab c.in_ok-heads.heads.items found given is)
+    rows_then (rw (to_z-of_z w64 c.args.lab c.ranges.lab) at c.in_ok-heads.ensures) c.persons_whole.result (by_schema (rw (to_z-of_z w64 c.args.lab c.ranges.lab) at c.persons_whole.ensures))
+    (λ t file given. let it = persons_done t c.args.lab c.in_ok-heads.heads.items given in (it.0, λ made is. is ∙ it.1))

@@ -2,10 +2,8 @@ use Rattle.std.proofs.Common.{◌≡◌, ◌∷◌, length, sym, ap, ◌∙◌, 
 use Rattle.std.proofs.lemmas.Int.{to_z-of_z}
 use Rattle.std.specs.Vec.Iter.{into_iter_items}
 use Rattle.lab_store_read_people.specs.Heads.{person_by}
-use Rattle.lab_move_read_people.specs.Persons.{is_kept_head}
 use Rattle.lab_store_read.proofs.Loops.{none_left}
-use Rattle.lab_move_tables.proofs.OldReaders.{reads_as}
-use Rattle.lab_move_read_people.proofs.KeptLoops.{none_kept, one_kept, not_kept, all_kept, kept_fails}
+use Rattle.lab_move_read_people.proofs.KeptLoops.{none_kept, one_kept, one_ends, push_ends, all_kept}
 use Rattle.lab_move_read_people.proofs.people.persons_whole.Goals as goal
 
 pub loop-head-init : goal.loop-head-init
@@ -20,7 +18,7 @@ pub loop-head-preserved : goal.loop-head-preserved
 loop-head-preserved g c =
     let steps : into_iter_items c.loop-head.head-iterator ≡ c.in-Some.head ∷ into_iter_items c.next.new.self = c.in-Some.ensures.steps.0 in
     record {
-      kept = one_kept c.loop-head.invariant.kept steps c.in_ok-person.ensures c.in_ok-push.ensures.ok cc;
+      kept = one_kept c.loop-head.invariant.kept steps c.in_ok-person.ensures c.in_ok-push.ensures.ok (λ t is. is);
       counted =
           let was = c.loop-head.invariant.counted in
           let less = c.in-Some.ensures.steps.1 in
@@ -29,15 +27,13 @@ loop-head-preserved g c =
     }
 
 pub returns-in_err-person : goal.returns-in_err-person
-returns-in_err-person g c = kept_fails c.loop-head.invariant.kept c.in_err-person.ensures c.from_residual.result _ c.from_residual.ensures.1
+returns-in_err-person g c =
+    one_ends (rw (to_z-of_z w64 c.args.lab c.ranges.lab) at c.loop-head.invariant.kept) c.in-Some.ensures.steps.0 c.in_err-person.field-0.0 (rw (to_z-of_z w64 c.args.lab c.ranges.lab) at c.in_err-person.ensures)
+    c.from_residual.result c.from_residual.ensures.1
 
 pub returns-in_err-push : goal.returns-in_err-push
-returns-in_err-push g c = kept_fails c.loop-head.invariant.kept c.in_ok-person.ensures c.from_residual-in_err-push.result _ c.from_residual-in_err-push.ensures.1
-
-pub returns-in_default : goal.returns-in_default
-returns-in_default g c =
-    reads_as (not_kept c.loop-head.invariant.kept c.in-Some.ensures.steps.0 c.in_ok-person.ensures c.in_default.is) (λ t found is. rw (to_z-of_z w64 c.args.lab c.ranges.lab) at is)
+returns-in_err-push g c = push_ends c.loop-head.invariant.kept c.in_ok-person.ensures c.from_residual-in_err-push.result c.from_residual-in_err-push.ensures.1
 
 pub returns : goal.returns
 returns g c =
-    reads_as (all_kept c.loop-head.invariant.kept (none_left _ (sym c.loop-head.invariant.counted ∙ c.in-None.ensures.steps.0))) (λ t found is. rw (to_z-of_z w64 c.args.lab c.ranges.lab) at is)
+    all_kept (rw (to_z-of_z w64 c.args.lab c.ranges.lab) at c.loop-head.invariant.kept) (none_left _ (sym c.loop-head.invariant.counted ∙ c.in-None.ensures.steps.0)) (λ t is. is)

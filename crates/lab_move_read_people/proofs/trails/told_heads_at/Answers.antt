@@ -1,14 +1,10 @@
-use Rattle.std.proofs.Common.{w64, map, ap, ◌∙◌}
+use Rattle.std.proofs.Common.{w64, ◌∙◌}
 use Rattle.std.proofs.lemmas.Int.{to_z-of_z}
-use Rattle.lab_store_read.proofs.Queries.{if_then}
-use Rattle.lab_store_read_trail.specs.Shown.{told_read}
-use Rattle.lab_move_tables.proofs.OldReaders.{may_and}
-use Rattle.lab_move_read_people.specs.Kept.{where_kept, are_counted}
-use Rattle.lab_move_read_people.proofs.PeopleFound.{told_found}
+use Rattle.lab_move_read_people.proofs.Found.{rows_tried}
+use Rattle.lab_move_read_people.proofs.PeopleFound.{told_done}
 use Rattle.lab_move_read_people.proofs.trails.told_heads_at.Goals as goal
 
 pub returns : goal.returns
 returns g c =
-    may_and (rw (to_z-of_z w64 c.args.lab c.ranges.lab) at c.in_ok-rows.ensures) (λ t file rows.
-    if_then c.told_tried.result (λ found is. is ∙ ap (λ l. where_kept (are_counted 0 c.args.count l) (map told_read l)) (c.deref.ensures.value ∙ rows)
-    ∙ told_found t c.args.lab c.args.count) c.told_tried.ensures)
+    rows_tried (rw (to_z-of_z w64 c.args.lab c.ranges.lab) at c.in_ok-rows.ensures) _ c.told_tried.result c.told_tried.ensures
+    (λ t file rows. let it = told_done t c.args.lab c.args.count _ (c.deref.ensures.value ∙ rows) in (it.0, λ made is. is ∙ it.1))

@@ -1,14 +1,10 @@
-use Rattle.std.proofs.Common.{w64, map, ap, ◌∙◌}
+use Rattle.std.proofs.Common.{w64, ◌∙◌}
 use Rattle.std.proofs.lemmas.Int.{to_z-of_z}
-use Rattle.lab_store_read.proofs.Queries.{if_then}
-use Rattle.lab_move_tables.specs.Checks.{are_rows_numbered}
-use Rattle.lab_move_tables.proofs.OldReaders.{may_and}
-use Rattle.lab_move_read_people.specs.Kept.{where_kept}
-use Rattle.lab_move_read_records.specs.Forms.{field_read}
-use Rattle.lab_move_read_records.proofs.FormsFound.{fields_found}
+use Rattle.lab_move_read_people.proofs.Found.{rows_tried}
+use Rattle.lab_move_read_records.proofs.FormsFound.{field_rows_done}
 use Rattle.lab_move_read_records.proofs.fields.field_heads_at.Goals as goal
 
 pub returns : goal.returns
 returns g c =
-    may_and (rw (to_z-of_z w64 c.args.form c.ranges.form) at c.in_ok-rows.ensures) (λ t file rows.
-    if_then c.fields_tried.result (λ found is. is ∙ ap (λ l. where_kept (are_rows_numbered 10 l) (map field_read l)) (c.deref.ensures.value ∙ rows) ∙ fields_found t c.args.form) c.fields_tried.ensures)
+    rows_tried (rw (to_z-of_z w64 c.args.form c.ranges.form) at c.in_ok-rows.ensures) _ c.fields_tried.result c.fields_tried.ensures
+    (λ t file rows. let it = field_rows_done t c.args.form _ (c.deref.ensures.value ∙ rows) in (it.0, λ made is. is ∙ it.1))

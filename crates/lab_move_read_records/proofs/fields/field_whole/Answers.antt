@@ -1,15 +1,18 @@
-use Rattle.std.proofs.Common.{w64, option_map, ap, ◌∙◌, SFits, rules}
+use Rattle.std.proofs.Common.{w64, ap, ◌∙◌, SFits, rules}
 use Rattle.std.proofs.lemmas.Int.{to_z-of_z}
-use Rattle.lab_store_tables.specs.Meaning.{names_of}
-use Rattle.lab_move_tables.specs.KeptLabs.{are_kept_names}
+use Rattle.lab_store_read_forms.specs.Kinds.{kind_with}
 use Rattle.lab_move_tables.proofs.OldReaders.{may_and}
-use Rattle.lab_move_read_people.proofs.Conditions.{mapped_where}
-use Rattle.lab_move_read_records.specs.Forms.{field_with}
+use Rattle.lab_move_read_people.proofs.Found.{found_ends}
 use Rattle.lab_move_read_records.proofs.fields.field_whole.Goals as goal
+
+pub returns-in_err-names : goal.returns-in_err-names
+returns-in_err-names g c =
+    let id_fits : SFits w64 c.args.head.id = search rules in
+    found_ends c.in_err-names.field-0.0 (rw (to_z-of_z w64 c.args.head.id id_fits) at c.in_err-names.ensures) (λ t file fails. fails) c.from_residual.result c.from_residual.ensures.1
 
 pub returns : goal.returns
 returns g c =
     let head = c.args.head in
     let id_fits : SFits w64 head.id = search rules in
     may_and (rw (to_z-of_z w64 head.id id_fits) at c.in_ok-names.ensures) (λ t file is.
-    c.field_with.ensures ∙ ap (option_map (field_with head)) is ∙ mapped_where (field_with head) (are_kept_names t head.id) (names_of t head.id))
+    (is.0, λ i. record { key = head.key; label = head.label; required = head.required; kind = (c.kind_with.ensures ∙ ap (kind_with head.kind) is.1) i }))

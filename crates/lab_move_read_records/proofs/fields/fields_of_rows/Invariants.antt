@@ -1,5 +1,5 @@
 use Rattle.std.proofs.Common.{◌≡◌, map, take}
-use Rattle.lab_move_read_records.specs.Forms.{field_read}
+use Rattle.lab_store_read_forms.specs.Shown.{field_read}
 use Rattle.lab_move_read_records.proofs.fields.fields_of_rows.Given as goal
 
 -- those of the rows so far

@@ -1,7 +1,8 @@
 use Rattle.std.proofs.Common.{◌≡◌, length}
 use Rattle.std.specs.Vec.Iter.{into_iter_items, into_iter_len}
 use Rattle.lab_move_tables.specs.Standing.{StandsBySome}
-use Rattle.lab_move_read_records.specs.Forms.{field_by, is_kept_field_head}
+use Rattle.lab_store_read_forms.specs.Forms.{field_by}
+use Rattle.lab_move_read_records.specs.Forms.{is_kept_field_head}
 use Rattle.lab_move_read_people.proofs.KeptLoops.{HasKept}
 use Rattle.lab_move_read_records.proofs.fields.fields_whole.Given as goal
 

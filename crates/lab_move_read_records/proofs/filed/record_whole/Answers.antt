@@ -1,17 +1,41 @@
-use Rattle.std.proofs.Common.{w64, ◌∙◌, SFits, rules}
+use Rattle.std.proofs.Common.{◌≡◌, false, true, nat_le, map, w64, ap, ◌∙◌, SFits, rules}
 use Rattle.std.proofs.lemmas.Int.{to_z-of_z}
-use Rattle.lab_store_read.proofs.Queries.{if_then}
+use Rattle.lab_store_read_records.specs.Leaves.{leaf_of}
+use Rattle.lab_store_read_forms.specs.Wholes.{record_with}
 use Rattle.lab_move_tables.proofs.OldReaders.{may_and, may_end}
-use Rattle.lab_move_read_records.specs.Records.{leaves_in}
+use Rattle.lab_move_read_people.specs.Kept.{found_of}
+use Rattle.lab_move_read_people.proofs.Found.{both_pass, first_fails, last_fails, found_ends, tried_ends, store_ends}
 use Rattle.lab_move_read_records.proofs.RecordsFound.{record_is}
 use Rattle.lab_move_read_records.proofs.filed.record_whole.Goals as goal
 
+pub returns-in_err-leaves : goal.returns-in_err-leaves
+returns-in_err-leaves g c =
+    let id_fits : SFits w64 c.args.head.id = search rules in
+    found_ends c.in_err-leaves.field-0.0 (rw (to_z-of_z w64 c.args.lab c.ranges.lab, to_z-of_z w64 c.args.head.id id_fits) at c.in_err-leaves.ensures)
+    (λ t file fails. last_fails _ _ fails) c.from_residual.result c.from_residual.ensures.1
+
 pub returns-in_err-form : goal.returns-in_err-form
-returns-in_err-form g c = may_end c.in_ok-leaves.ensures c.from_residual-in_err-form.result _ c.from_residual-in_err-form.ensures.1
+returns-in_err-form g c =
+    may_and c.in_ok-leaves.ensures (λ t file was. tried_ends _ _ c.in_err-form.field-0.0 c.in_err-form.ensures (λ fails. first_fails _ _ (first_fails _ _ fails))
+    c.from_residual-in_err-form.result c.from_residual-in_err-form.ensures.1)
+
+pub returns-then-head-eq0 : goal.returns-then-head-eq0
+returns-then-head-eq0 g c =
+    let none : nat_le 1 c.args.head.current ≡ false = search rules in
+    may_and c.in_ok-leaves.ensures (λ t file was. first_fails _ _ (last_fails _ _ none))
+
+pub returns-in_err-record_with : goal.returns-in_err-record_with
+returns-in_err-record_with g c =
+    may_end c.in_ok-leaves.ensures (found_of c.from_residual-in_err-record_with.result) (λ _. Unit {0})
+    (store_ends c.in_err-record_with.field-0.0 c.from_residual-in_err-record_with.result c.from_residual-in_err-record_with.ensures.1)
 
 pub returns : goal.returns
 returns g c =
     let head = c.args.head in
     let id_fits : SFits w64 head.id = search rules in
-    may_and (rw (to_z-of_z w64 c.args.lab c.ranges.lab, to_z-of_z w64 head.id id_fits) at c.in_ok-leaves.ensures) (λ t file leaves.
-    if_then c.record_if.result (λ found is. is ∙ record_is t c.args.lab c.args.code.now c.args.forms.now head c.in_ok-form.form (leaves_in c.in_ok-leaves.leaves) c.in_ok-form.ensures leaves) c.record_if.ensures)
+    let some : nat_le 1 head.current ≡ true = search rules in
+    may_and (rw (to_z-of_z w64 c.args.lab c.ranges.lab, to_z-of_z w64 head.id id_fits) at c.in_ok-leaves.ensures) (λ t file leaves. (
+      both_pass _ _ (both_pass _ _ c.in_ok-form.ensures.0 some) leaves.0,
+      c.in_ok-record_with.ensures ∙ ap (λ l. record_with c.args.code.now head c.in_ok-form.form (map leaf_of l)) c.into_vec.ensures ∙ ap (record_with c.args.code.now head c.in_ok-form.form) leaves.1
+          ∙ record_is t c.args.code.now c.args.forms.now head c.in_ok-form.form c.in_ok-form.ensures.1,
+    ))

@@ -1,16 +1,23 @@
-use Rattle.std.proofs.Common.{w64, option_map, ap, ◌∙◌, SFits, rules}
+use Rattle.std.proofs.Common.{w64, ◌∙◌, SFits, rules}
 use Rattle.std.proofs.lemmas.Int.{to_z-of_z}
-use Rattle.lab_store_read.proofs.Queries.{if_then}
-use Rattle.lab_store_tables.specs.Meaning.{fields_of}
-use Rattle.lab_move_tables.specs.KeptLabs.{are_kept_fields}
-use Rattle.lab_move_tables.proofs.OldReaders.{may_and}
-use Rattle.lab_move_read_people.proofs.Conditions.{mapped_where}
-use Rattle.lab_move_read_records.specs.Forms.{form_with}
+use Rattle.lab_move_tables.proofs.OldReaders.{may_and, may_end}
+use Rattle.lab_move_read_people.specs.Kept.{found_of}
+use Rattle.lab_move_read_people.proofs.Found.{found_ends, store_ends}
 use Rattle.lab_move_read_records.proofs.forms.form_whole.Goals as goal
+
+pub returns-in_err-fields : goal.returns-in_err-fields
+returns-in_err-fields g c =
+    let id_fits : SFits w64 c.args.head.id = search rules in
+    found_ends c.in_err-fields.field-0.0 (rw (to_z-of_z w64 c.args.head.id id_fits) at c.in_err-fields.ensures) (λ t file fails. fails) c.from_residual.result c.from_residual.ensures.1
+
+pub returns-in_err-form : goal.returns-in_err-form
+returns-in_err-form g c =
+    may_end c.in_ok-fields.ensures (found_of c.from_residual-in_err-form.result) (λ _. Unit {0}) (store_ends c.in_err-form.field-0.0 c.from_residual-in_err-form.result c.from_residual-in_err-form.ensures.1)
 
 pub returns : goal.returns
 returns g c =
     let head = c.args.head in
     let id_fits : SFits w64 head.id = search rules in
     may_and (rw (to_z-of_z w64 head.id id_fits) at c.in_ok-fields.ensures) (λ t file is.
-    if_then c.form_with.result (λ found so. so ∙ ap (option_map (form_with head)) is ∙ mapped_where (form_with head) (are_kept_fields t head.id) (fields_of t head.id)) c.form_with.ensures)
+    let fields = c.into_vec.ensures ∙ is.1 in
+    (is.0, λ i. record { id = to_z-of_z w64 head.id id_fits i; form = record { code = head.code; version = head.version; form = (c.in_ok-form.ensures.value ∙ (λ j. record { fields = fields j; approval = head.approval })) i } }))

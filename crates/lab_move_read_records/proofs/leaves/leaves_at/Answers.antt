@@ -1,15 +1,15 @@
-use Rattle.std.proofs.Common.{w64, Some, sym, ap, ◌∙◌}
+use Rattle.std.proofs.Common.{w64, ◌∙◌}
 use Rattle.std.proofs.lemmas.Int.{to_z-of_z}
-use Rattle.lab_move_tables.proofs.OldReaders.{by_schema, may_and, may_then}
-use Rattle.lab_move_read_records.specs.Records.{leaves_in}
-use Rattle.lab_move_read_records.proofs.RecordsFound.{leaves_done, leaves_fail}
+use Rattle.lab_move_tables.proofs.OldReaders.{by_schema}
+use Rattle.lab_move_read_people.proofs.Found.{first_fails, found_ends, rows_then}
+use Rattle.lab_move_read_records.proofs.RecordsFound.{leaves_done}
 use Rattle.lab_move_read_records.proofs.leaves.leaves_at.Goals as goal
 
-pub returns-in-Some : goal.returns-in-Some
-returns-in-Some g c =
-    may_then (rw (to_z-of_z w64 c.args.kept c.ranges.kept) at c.in_ok-heads.ensures) (by_schema (rw (to_z-of_z w64 c.args.lab c.ranges.lab) at c.leaves_whole.ensures))
-    (λ t file given found is. leaves_done t c.args.lab c.args.kept c.args.count c.into_vec.result.items (leaves_in found) (ap Some c.into_vec.ensures ∙ sym c.in-Some.is ∙ given) is)
+pub returns-in_err-heads : goal.returns-in_err-heads
+returns-in_err-heads g c =
+    found_ends c.in_err-heads.field-0.0 (rw (to_z-of_z w64 c.args.kept c.ranges.kept) at c.in_err-heads.ensures) (λ t file fails. first_fails _ _ fails) c.from_residual.result c.from_residual.ensures.1
 
-pub returns-in-None : goal.returns-in-None
-returns-in-None g c =
-    may_and (rw (to_z-of_z w64 c.args.kept c.ranges.kept) at c.in_ok-heads.ensures) (λ t file given. leaves_fail t c.args.lab c.args.kept c.args.count (sym c.in-None.is ∙ given))
+pub returns : goal.returns
+returns g c =
+    rows_then (rw (to_z-of_z w64 c.args.kept c.ranges.kept) at c.in_ok-heads.ensures) c.leaves_whole.result (by_schema (rw (to_z-of_z w64 c.args.lab c.ranges.lab) at c.leaves_whole.ensures))
+    (λ t file given. let it = leaves_done t c.args.lab c.args.kept c.args.count c.in_ok-heads.heads.items given.0 given.1 in (it.0, λ made is. is ∙ it.1))
