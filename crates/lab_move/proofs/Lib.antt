@@ -11,5 +11,7 @@ pub mod EachLab
 pub mod AllLabs
 pub mod CountedFiles
 pub mod Causes
+pub mod StoreCauses
 pub mod MoveOwed
 pub mod KnownOwed
+pub mod KnownMoves

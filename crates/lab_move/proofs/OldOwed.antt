@@ -1,5 +1,5 @@
 -- The verdict on an old file is what the file owes, and nothing else is.
-use Rattle.std.proofs.Common.{◌≡◌, ◌≢◌, ◌<◌, ◌≤◌, inl, inr, ℕ, ℤ, pos, negsuc, Bool, true, false, List, [], Some, None, Option, Ok, Err, Result, refl, sym, ap, subst, ◌∙◌, arith}
+use Rattle.std.proofs.Common.{◌≡◌, ◌≢◌, ◌<◌, ◌≤◌, inl, inr, ℕ, ℤ, pos, negsuc, Bool, true, false, List, [], Some, None, Option, Ok, Err, Result, IfErr, refl, sym, ap, subst, ◌∙◌, arith}
 use Rattle.std.specs.Prelude.{int_lt, if◌then◌else◌}
 use Rattle.std.proofs.lemmas.Int.{ints}
 use Rattle.sqlite_value.specs.Order.{Row}
@@ -106,6 +106,12 @@ verdict_owed schema (Some number) = go (older_of number) refl
     go : (found : Option Older) → older_of number ≡ found → IsOldOwed (λ older. is_whole older schema) (Some number) (named_verdict schema number found)
     go None e = unnamed_owed (λ older. is_whole older schema) number e
     go (Some older) e = whole_owed (λ older. is_whole older schema) number older (is_whole older schema) (number_is number older e) refl
+
+-- no verdict is the store's
+pub never_stored : (P : Type 0) (schema : Schema) (rows : List Row) (answer : Answer) → answer ≡ old_verdict schema rows → IfErr answer (λ fault. fault ≡ Storage → P)
+never_stored P schema rows (Ok older) is = tt
+never_stored P schema rows (Err fault) is = λ told.
+    absurd (subst (IsOldOwed (λ older. is_whole older schema) (number_shown rows)) (sym is ∙ ap Err told) (verdict_owed schema (number_shown rows)))
 
 -- ---- of a file
 

@@ -11,8 +11,8 @@ use Rattle.lab_move_tables.proofs.OldReaders.{may_and}
 use Rattle.lab_move_files.specs.Commits.{MakesAtOnce}
 use Rattle.lab_move_files.proofs.Commits.{makes_weaker}
 use Rattle.lab_move_write.specs.Carrying.{Carries}
-use Rattle.lab_move_read.specs.declared.faults.WholeFault.{WholeFault}
-use Rattle.lab_move_read.specs.declared.faults.WholeFault.TheVariants.{NotKept}
+use Rattle.lab_move_read_people.specs.declared.faults.KeptFault.{KeptFault}
+use Rattle.lab_move_read_people.specs.declared.faults.KeptFault.TheVariants.{NotKept}
 use Rattle.lab_move_read.specs.Laboratories.{IsLabOf, IsUnkept}
 use Rattle.lab_move.specs.declared.faults.MoveFault.{MoveFault}
 use Rattle.lab_move.specs.declared.faults.MoveFault.TheVariants.{File, NotSound}
@@ -58,7 +58,7 @@ module _ {Stands : Database → Tables → Type 0} {E : Type 0} (code : List ℕ
   lab_blamed one it = (it.0, λ t so. inr (it.1, subst (IsLabOf t code) it.2 (here t so), it.3))
 
 -- where none was read
-pub unread_blamed : (Stands : Database → Tables → Type 0) (code : List ℕ) (fault : WholeFault) (before after : State)
+pub unread_blamed : (Stands : Database → Tables → Type 0) (code : List ℕ) (fault : KeptFault) (before after : State)
     → ((t : Tables) → Stands before.now t → HasCleanDisk after → fault ≡ NotKept → IsUnkept t code)
     → (one : List ℕ) → (one ≡ code) × (fault ≡ NotKept) → (one ≡ code) × ((t : Tables) → ReadsOldAs Stands before after t → IsUnsoundIn t code)
 unread_blamed Stands code fault before after unkept one it = (it.0, λ t so. inl (unkept t so.0 so.1 it.1))

@@ -4,3 +4,4 @@ pub mod OldFiles
 pub mod Counting
 pub mod Moving
 pub mod Owed
+pub mod Causes

@@ -15,7 +15,7 @@ ghost use Rattle.lab_move_files.specs.Commits.{MakesAtOnce};
 ghost use Rattle.lab_move_files.specs.Unfinished.{Finishes, IsBeingFilled};
 ghost use Rattle.lab_move_laws.specs.Namings.{NamesSchema};
 ghost use Rattle.lab_move_write.specs.Carrying.{Carries};
-ghost use Rattle.lab_move_read.specs.declared.faults.WholeFault.TheVariants.{NotKept};
+ghost use Rattle.lab_move_read_people.specs.declared.faults.KeptFault.TheVariants.{NotKept};
 ghost use Rattle.lab_move_read.specs.Laboratories.{codes_of};
 ghost use Rattle.lab_move.specs.Counting.{HasAsMany};
 ghost use Rattle.lab_move.specs.Moving.{Blames, BlamesFirst, BlamesFirstOfAll, CarriesFrom, Fills, FillsAll, HasThese, AreCounted, IsBegun, ReadsOldAs, IsSoundIn, IsSoundLab, IsUnsoundIn, IsWhole, IsWholeOf};
@@ -25,7 +25,7 @@ use crate::faults::{MoveFault, store_fault};
 use crate::testing::{not_sound, test_lab};
 use lab_forms_texts::LabCode;
 use lab_move_files::finish;
-use lab_move_read::{WholeFault, codes, whole};
+use lab_move_read::{KeptFault, codes, whole};
 use lab_move_tables::Older;
 use lab_move_write::{MoveProgress, place_lab};
 use lab_records_kept::Lab;
@@ -97,13 +97,13 @@ fn place_found<T: Alter, P: MoveProgress>(
 }
 
 // Why a laboratory was not read.
-fn unread(code: &LabCode, fault: WholeFault) -> MoveFault
+fn unread(code: &LabCode, fault: KeptFault) -> MoveFault
     ensures { Blames (λ one. (one ≡ code.now) × (fault ≡ NotKept)) result }
 {
     match fault {
-        WholeFault::NotKept => not_sound(code),
-        WholeFault::Storage => MoveFault::File(FileFault::Storage),
-        WholeFault::Memory => MoveFault::File(FileFault::Memory),
+        KeptFault::NotKept => not_sound(code),
+        KeptFault::Storage => MoveFault::File(FileFault::Storage),
+        KeptFault::Memory => MoveFault::File(FileFault::Memory),
     }
 }
 

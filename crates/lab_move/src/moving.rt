@@ -18,11 +18,13 @@ ghost use Rattle.lab_move_tables.specs.Reading.{ReadsOld};
 ghost use Rattle.lab_move_tables.specs.Standing.{StandsBy};
 ghost use Rattle.lab_move_tables.specs.declared.older.Older.{Older as AnyOlder};
 ghost use Rattle.lab_move_tables.specs.declared.older.Older.TheVariants.{Two};
+ghost use Rattle.lab_move_files.specs.Causes.{MakingEndsForCause};
 ghost use Rattle.lab_move_files.specs.Commits.{MakesAtOnce};
 ghost use Rattle.lab_move_files.specs.Unfinished.{Begins, IsBeingFilled};
 ghost use Rattle.lab_move_read.specs.Laboratories.{codes_of};
 ghost use Rattle.lab_move.specs.declared.faults.MoveFault.{MoveFault as AnyFault};
 ghost use Rattle.lab_move.specs.declared.faults.MoveFault.TheVariants.{File};
+ghost use Rattle.lab_move.specs.Causes.{IsMoveCaused, IsStopped};
 ghost use Rattle.lab_move.specs.Counting.{HasAsMany};
 ghost use Rattle.lab_move.specs.Faults.{is_early};
 ghost use Rattle.lab_move.specs.Moving.{HasCause, IsFirstUnsound, IsMoved, IsNoInstallation, IsSoundIn, IsStart, Lasts, LeavesUnfinished};
@@ -94,6 +96,7 @@ fn make_for<T: Alter>(older: Older, new: &mut Connection<T>) -> Result<Older, Fi
         IsTrue (is_taken (state T.Store new.old).now.schema) × (new.new ≡ new.old) }
     ensures fault { IfErr result
         (λ fault. (fault ≡ NotEmpty) ⊎ ((fault ≡ Storage) ⊎ (fault ≡ Memory))) }
+    ensures cause { MakingEndsForCause T.Store (λ fault. fault ≡ Storage) new.old new.new result }
 {
     match make_tables(new) {
         Ok(()) => Ok(older),
@@ -123,6 +126,10 @@ fn begin<S: Alter, T: Alter>(
     ensures untouched { IfErr result (λ fault. IsTrue (is_early (File fault)) → new.new ≡ new.old) }
     ensures taken { IsTrue (is_taken (state T.Store new.old).now.schema) →
         OnOk result ⊥ × (new.new ≡ new.old) }
+    ensures stopped { HasCleanDisk (state S.Store old.new.conn) →
+        HasCleanDisk (state T.Store new.new) → IfErr result (λ fault. fault ≡ Storage →
+        IsStopped T.Store (state S.Store old.old.conn) (state S.Store old.new.conn)
+        new.old new.new) }
 {
     match open_old(old) {
         Ok(older) => make_for(older, new),
@@ -171,6 +178,11 @@ pub fn migrate<S: Alter, T: Alter, P: MoveProgress>(
     // then the new one's, then that of the laboratory of the least code that isn't sound:
     ensures owed { MovesAsOwed (state S.Store old.old.conn)
         (state S.Store old.new.conn) (state T.Store new.old) result }
+    // The refusal of a store has its cause, or it came once the new file was being filled:
+    ensures cause { HasCleanDisk (state S.Store old.new.conn) →
+        HasCleanDisk (state T.Store new.new) → IfErr result (λ fault. fault ≡ File Storage →
+        IsMoveCaused T.Store (state S.Store old.old.conn) (state S.Store old.new.conn)
+        new.old new.new) }
     // However it ends, the old rows are as they were, and a crash leaves no more of the old file
     // than before:
     ensures old_same { ReadsOld (λ _ _. Unit {0})

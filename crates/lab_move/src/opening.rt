@@ -5,11 +5,12 @@ ghost use Rattle.sqlite_value.specs.Order.{column};
 ghost use Rattle.sqlite.specs.Held.{state};
 ghost use Rattle.sqlite.specs.State.{HasCleanDisk, Shown};
 ghost use Rattle.lab_store_files.specs.declared.faults.FileFault.{FileFault as AnyFault};
-ghost use Rattle.lab_store_files.specs.declared.faults.FileFault.TheVariants.{NotEmpty};
+ghost use Rattle.lab_store_files.specs.declared.faults.FileFault.TheVariants.{NotEmpty, Storage};
 ghost use Rattle.lab_store_files.specs.Faults.{FailedInStore};
 ghost use Rattle.lab_store_files.specs.Verdicts.{integer_in, number_query, number_shown};
 ghost use Rattle.lab_move_tables.specs.Reading.{ReadsOld};
 ghost use Rattle.lab_move_tables.specs.declared.older.Older.{Older as AnyOlder};
+ghost use Rattle.lab_move.specs.Causes.{IsUnasked};
 ghost use Rattle.lab_move.specs.Faults.{IsOfStore};
 ghost use Rattle.lab_move.specs.OldFiles.{older_of, whole_verdict, other_verdict, named_verdict, old_verdict, OldAnswers, IsNamedOldFile};
 ghost use Rattle.lab_move.specs.Owed.{AnswersOldOwed, IsOldOwed};
@@ -134,6 +135,8 @@ fn number_rows<D: Readable>(tables: &mut D) -> Result<Vec<Row>, FileFault>
     ensures shown { HasCleanDisk (D.state tables.new) → IfOk result (λ rows.
         Shown number_query [] (D.state tables.old) (D.state tables.new) rows.items) }
     ensures fault { IfErr result IsOfStore }
+    ensures cause { HasCleanDisk (D.state tables.new) → IfErr result (λ fault. fault ≡ Storage →
+        IsUnasked (D.state tables.old) (D.state tables.new)) }
 {
     match tables.query_all("SELECT schema FROM desk", &[]) {
         Ok(rows) => Ok(rows),
@@ -163,6 +166,10 @@ pub fn open_old<S: Alter>(file: &mut OldFile<S>) -> Result<Older, FileFault>
     ensures reads { ReadsOld (λ _ _. Unit {0})
         (state S.Store file.old.conn) (state S.Store file.new.conn) result }
     ensures fault { result ≢ Err NotEmpty }
+    // The store's refusal has its cause:
+    ensures cause { HasCleanDisk (state S.Store file.new.conn) →
+        IfErr result (λ fault. fault ≡ Storage →
+        IsUnasked (state S.Store file.old.conn) (state S.Store file.new.conn)) }
 {
     if !has_number(file.conn.schema()) {
         return Err(FileFault::NotADeskFile);

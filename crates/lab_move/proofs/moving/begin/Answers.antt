@@ -1,8 +1,12 @@
-use Rattle.std.proofs.Common.{Err, subst, sym}
+use Rattle.std.proofs.Common.{◌≡◌, inl, inr, Err, subst, sym}
+use Rattle.std.proofs.lemmas.Result.{IfErr-weaker}
 use Rattle.sqlite.specs.Held.{state}
 use Rattle.lab_move_tables.proofs.OldReaders.{may_and, may_end}
 use Rattle.lab_move_files.proofs.Commits.{nothing_made}
 use Rattle.lab_store_read.proofs.Queries.{if_then}
+use Rattle.lab_store_files.specs.declared.faults.FileFault.TheVariants.{Storage}
+use Rattle.lab_move_files.specs.Causes.{AreUnmade}
+use Rattle.lab_move.specs.Causes.{IsStopped}
 use Rattle.lab_move.specs.OldFiles.{Names}
 use Rattle.lab_move.proofs.OldVerdicts.{any_ok, names_so}
 use Rattle.lab_move.proofs.Causes.{old_cause, made_cause, made_untouched, made_taken}
@@ -57,3 +61,15 @@ returns-in-Ok-clause-owed g c =
 pub returns-in-Err-clause-owed : goal.returns-in-Err-clause-owed
 returns-in-Err-clause-owed g c =
     refused_moves (state g.S.Store c.args.old.now.conn) (state g.S.Store c.open_old.new.file.conn) (state g.T.Store c.args.new.now) c.in-Err.fault c.in-Err.ensures.owed
+
+pub returns-in-Ok-clause-stopped : goal.returns-in-Ok-clause-stopped
+returns-in-Ok-clause-stopped g c read clean =
+    let before = state g.S.Store c.args.old.now.conn in
+    let after = state g.S.Store c.open_old.new.file.conn in
+    let fresh = c.args.new.now in
+    let new = c.make_for.new.new in
+    IfErr-weaker c.make_for.result (λ fault. fault ≡ Storage → AreUnmade g.T.Store fresh new) (λ fault. fault ≡ Storage → IsStopped g.T.Store before after fresh new)
+    (λ fault why told. inr (why told)) (c.make_for.ensures.cause.cause clean)
+
+pub returns-in-Err-clause-stopped : goal.returns-in-Err-clause-stopped
+returns-in-Err-clause-stopped g c read clean told = inl (c.in-Err.ensures.cause read told)

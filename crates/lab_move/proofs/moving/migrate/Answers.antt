@@ -10,6 +10,7 @@ use Rattle.lab_move.proofs.Causes.{filled_cause, filled_late, all_moved}
 use Rattle.lab_move.specs.OldFiles.{StandsFor}
 use Rattle.lab_move.proofs.MoveOwed.{blamed_since, filled_moves}
 use Rattle.lab_move.proofs.OldVerdicts.{stands_by}
+use Rattle.lab_move.proofs.StoreCauses.{never_begun, under_way}
 use Rattle.lab_move.proofs.moving.migrate.Goals as goal
 
 pub returns-in-Ok-clause-moved : goal.returns-in-Ok-clause-moved
@@ -95,3 +96,15 @@ returns-in-Ok-clause-durable g c blank clean =
     lasting g.T.Store g.met.T.Store.stays g.met.T.Store.settled before after c.fill.new.new c.fill.result c.fill.ensures.fills.at_rest clean
     (whole_now g.T.Store blank c.in-Ok.ensures.begun before mid after (λ late. c.in-Ok.ensures.reads.shows (c.fill.ensures.reads.passes.clean late))
     (λ late. stands_by c.in-Ok.older before.now (c.in-Ok.ensures.older (c.fill.ensures.reads.passes.clean late))) c.fill.ensures.fills clean)
+
+pub returns-in-Ok-clause-cause : goal.returns-in-Ok-clause-cause
+returns-in-Ok-clause-cause g c late clean =
+    let before = state g.S.Store c.args.old.now.conn in
+    let after = state g.S.Store c.fill.new.old.conn in
+    let read = c.fill.ensures.reads.passes.clean late in
+    under_way g.T.Store before after c.args.new.now c.begin.new.new c.fill.new.new c.in-Ok.ensures.begun c.in-Ok.older (c.in-Ok.ensures.older read) (c.in-Ok.ensures.opened read).1
+    c.fill.result c.fill.ensures.fills
+
+pub returns-in-Err-clause-cause : goal.returns-in-Err-clause-cause
+returns-in-Err-clause-cause g c late clean =
+    never_begun g.T.Store (state g.S.Store c.args.old.now.conn) (state g.S.Store c.begin.new.old.conn) c.args.new.now c.begin.new.new c.in-Err.fault (c.in-Err.ensures.stopped late clean)

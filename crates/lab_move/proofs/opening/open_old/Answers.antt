@@ -5,7 +5,7 @@ use Rattle.lab_store_files.specs.Schemas.{has_number}
 use Rattle.lab_move_tables.proofs.OldReaders.{may_and, may_end}
 use Rattle.lab_move.specs.OldFiles.{old_verdict}
 use Rattle.lab_move.proofs.OldVerdicts.{ours_named, ours_taken, not_taken, verdict_at, failed_in, not_empty_in, any_ok, none_asked}
-use Rattle.lab_move.proofs.OldOwed.{failed_answered, named_answered, unnamed_answered}
+use Rattle.lab_move.proofs.OldOwed.{failed_answered, named_answered, never_stored, unnamed_answered}
 use Rattle.lab_move.proofs.opening.open_old.Goals as goal
 
 pub returns-then-not-has_number-clause-ours : goal.returns-then-not-has_number-clause-ours
@@ -72,3 +72,6 @@ returns-in-Err-clause-owed g c clean =
     let old = state g.S.Store c.args.file.now.conn in
     let named : has_number old.now.schema ≡ true = search rules in
     failed_answered old.now _ named (failed_in c.in-Err.fault c.in-Err.ensures.fault)
+
+pub returns-in-Ok-clause-cause : goal.returns-in-Ok-clause-cause
+returns-in-Ok-clause-cause g c clean = never_stored _ c.schema-in-Ok.result.now c.deref.result.now c.verdict.result c.verdict.ensures

@@ -1,0 +1,144 @@
+-- Small instances of the definitions of a move, so that none is empty: where it stops, how it ends, what lasts, and why it tells of
+-- the store; and a body that always tells of the store has no cause for it.
+use Rattle.std.proofs.Common.{◌≡◌, inl, inr, ℕ, ◌-◌, ◌<◌, ◌^◌, pos, true, false, List, [], ◌∷◌, map, None, Ok, Err, IsTrue, refl, sym, ap, subst, ◌∙◌, arith, find}
+use Rattle.std.specs.Prelude.{codes, option_map}
+use Rattle.std.proofs.lemmas.List.Elements.{All-nil}
+use Rattle.sqlite_trees.specs.declared.store.Store.{Ghosts}
+use Rattle.sqlite_schema.specs.declared.schema.Schema.{Schema}
+use Rattle.sqlite_schema.specs.declared.schema.Table.{Table}
+use Rattle.sqlite.specs.Effect.{Database}
+use Rattle.sqlite.specs.Held.{Held, state}
+use Rattle.sqlite.specs.State.{State, HasCleanDisk}
+use Rattle.lab_store_tables.specs.Schema.{lab_schema}
+use Rattle.lab_store_tables.specs.Family.{Name, Desk, empty_tables, id_of, rows, tables_in}
+use Rattle.lab_store_tables.specs.Held.{IsTyped}
+use Rattle.lab_store_tables.specs.Meaning.{has_code, lab_in, meaning}
+use Rattle.lab_store_tables.specs.Ready.{IsKept}
+use Rattle.lab_store_tables.specs.Rows.{LabRow, Tables}
+use Rattle.lab_store_tables.proofs.FamilyWords.{stored_row, tree_of, trees_of}
+use Rattle.lab_store_tables.proofs.KnownFile.{desk}
+use Rattle.lab_store_tables.proofs.Tests.{are_rising, kept_by_tests, keyed_from_test}
+use Rattle.lab_store_read.specs.Causes.{IsCaused}
+use Rattle.lab_store_files.specs.declared.faults.FileFault.TheVariants.{NotADeskFile, Storage}
+use Rattle.lab_store_files.specs.NewFiles.{IsBlank, no_schema}
+use Rattle.lab_store_files.specs.Schemas.{has_number, is_taken}
+use Rattle.lab_move_tables.specs.declared.older.Older.TheVariants.{Two}
+use Rattle.lab_move_tables.proofs.KnownOldFile.{lifted}
+use Rattle.lab_move_read.specs.Laboratories.{codes_of}
+use Rattle.lab_move.specs.declared.faults.MoveFault.TheVariants.{File, NotSound}
+use Rattle.lab_move.specs.Causes.{IsMoveCaused, RefusesNumber}
+use Rattle.lab_move.specs.Moving.{AreCounted, IsFirstUnsound, IsSoundIn, Lasts}
+use Rattle.lab_move.specs.OldFiles.{StandsFor}
+use Rattle.lab_move.specs.Owed.{AnswersOldOwed, MovesAsOwed, StopsAt}
+use Rattle.lab_move.proofs.FirstUnsound.{first_is_least}
+use Rattle.lab_move.proofs.MoveOwed.{filled_moves, refused_moves}
+use Rattle.lab_move.proofs.OldOwed.{unnamed_answered}
+
+-- ---- where a move stops
+
+-- the small file of schema 2, whose records have lost their versions
+abbrev lost : Tables
+lost = record lifted { versions = [] }
+
+first_lost : IsFirstUnsound lost (codes_of lost) (codes "aqua")
+first_lost = ([], codes "brick" ∷ [], refl, All-nil (IsSoundIn lost), inl refl)
+
+-- of both laboratories the move stops at aqua, and not at brick
+pub known_stop : StopsAt lost (codes "aqua") × ¬ StopsAt lost (codes "brick")
+known_stop = (first_is_least lost (codes "aqua") first_lost, λ it. let wrong = it.least (codes "aqua") (inl refl) in absurd cc)
+
+-- ---- how a move ends
+
+-- an empty old file is refused
+pub known_refused : (before after fresh : State) → before.now.schema ≡ no_schema → MovesAsOwed before after fresh {A = ℕ} (Err (File NotADeskFile))
+known_refused before after fresh empty =
+    let unnamed : has_number before.now.schema ≡ false = ap has_number empty in
+    refused_moves before after fresh NotADeskFile (λ clean. unnamed_answered before.now (Err NotADeskFile) unnamed refl)
+
+-- a file of schema 2 that stands for those tables alone stops the move at aqua, and one without a laboratory is moved
+module _ (before after fresh : State) (answers : AnswersOldOwed before.now (Ok Two)) (free : is_taken fresh.now.schema ≡ false) where
+  pub known_stopped : ((t : Tables) → StandsFor before.now t → t ≡ lost) → MovesAsOwed before after fresh {A = ℕ} (Err (NotSound (codes "aqua")))
+  known_stopped alone =
+      filled_moves before after fresh Two (Err (NotSound (codes "aqua"))) (λ clean. (answers, free)) (λ t stands clean. tt)
+      (λ t so. subst (λ one. IsFirstUnsound one (codes_of one) (codes "aqua")) (sym (alone t so.0)) first_lost)
+
+  pub known_moved : ((t : Tables) → StandsFor before.now t → t ≡ empty_tables) → MovesAsOwed before after fresh {A = ℕ} (Ok 0)
+  known_moved alone =
+      filled_moves before after fresh Two (Ok 0) (λ clean. (answers, free))
+      (λ t stands clean. subst (λ one. AreCounted (codes_of one) one 0) (sym (alone t stands)) (refl, All-nil (IsSoundIn empty_tables))) tt
+
+-- ---- what lasts
+
+-- a file that names the schema, without a laboratory
+abbrev named : Tables
+named = record empty_tables { desk = desk (pos 1) 3 ∷ [] }
+
+abbrev whole : Database
+whole = record { schema = lab_schema; trees = trees_of named }
+
+ids_rise : (k : Name) → are_rising (id_of k) (rows k named) ≡ true
+ids_rise Desk = refl
+ids_rise _ = refl
+
+stands : (k : Name) → trees_of named (tree_of k) ≡ map (stored_row k) (rows k (tables_in (trees_of named)))
+stands Desk = refl
+stands _ = refl
+
+whole_kept : IsKept whole
+whole_kept = record {
+  typed = record { schema = refl; stored = record { at = stands }; rising = record { at = λ k. keyed_from_test (id_of k) (rows k named) (ids_rise k) } };
+  rows = kept_by_tests named refl refl refl refl refl refl refl refl refl refl refl refl refl refl;
+}
+
+none_meant : (t : Tables) (code : List ℕ) → t ≡ empty_tables → meaning t code ≡ None
+none_meant t code is = ap (λ (one : Tables). meaning one code) is
+
+-- it lasts where a crash leaves what it shows, of an old file that stands for no laboratory
+pub known_lasting : (before after new : State) → ((t : Tables) → StandsFor before.now t → t ≡ empty_tables)
+    → Lasts before after (record new { now = whole; may_leave = λ trees. trees ≡ whole.trees })
+known_lasting before after new alone = record {
+  left = λ trees left. left;
+  stays = refl;
+  whole = record { file = whole_kept; sound = λ code. tt; same = λ t so code. sym (none_meant t code (alone t so.0)) };
+}
+
+-- and it doesn't where a crash leaves nothing
+pub known_lost : (before after new : State) → ¬ Lasts before after (record new { may_leave = λ trees. ⊥ })
+known_lost before after new it = it.stays
+
+-- ---- why a move tells of the store
+
+module _ {S : Type 0} (g : Ghosts S) (held : Held S) (before : State) where
+  -- a connection to the old file that was shut, or one to the new file, is told of
+  pub known_shut : before.is_open ≡ false → IsMoveCaused g before before held held
+  known_shut shut = inl (inl (inl (inr (inl shut))))
+
+  pub known_new_shut : (state g held).is_open ≡ false → IsMoveCaused g before before held held
+  known_new_shut shut = inl (inr (inl (inr (inl shut))))
+
+  -- an empty new file that stays as it was isn't, where both connections are open and have no limit, their disks had no fault, no
+  -- transaction was undone, and the old file took the question
+  pub known_uncaused : IsTrue before.is_open → before.step_limit ≡ None → before.faults < 2 ^ 64 - 1 → (RefusesNumber before before → ⊥)
+      → IsBlank (state g held).now → HasCleanDisk (state g held) → IsTrue (state g held).is_open → (state g held).step_limit ≡ None → (state g held).faults < 2 ^ 64 - 1
+      → ((state g held).marks ≡ [] → ⊥) → ¬ IsMoveCaused g before before held held
+  known_uncaused open_old limit_old few_old taken blank clean opened limit few marked told = elim told [
+    | inl stopped ↦ elim stopped [
+      | inl unasked ↦ elim unasked [
+        | inl caused ↦ uncaused before open_old limit_old few_old caused
+        | inr refused ↦ taken refused
+      ]
+      | inr unmade ↦ elim unmade [
+        | inl caused ↦ uncaused (state g held) opened limit few caused
+        | inr inside ↦ marked inside.undone.unmarked
+      ]
+    ]
+    | inr way ↦ (let is = (way.filling blank clean opened).typed.schema in unlike (sym blank ∙ is))
+  ]
+    where
+      uncaused : (s : State) → IsTrue s.is_open → s.step_limit ≡ None → s.faults < 2 ^ 64 - 1 → IsCaused s s → ⊥
+      uncaused s opened limit few (inl faulted) = omega (arith, few, faulted)
+      uncaused s opened limit few (inr (inl shut)) = let o = opened in let wrong = shut in cc
+      uncaused s opened limit few (inr (inr limited)) = let wrong = rw limit at limited in cc
+
+      unlike : no_schema ≡ lab_schema → ⊥
+      unlike same = let wrong = ap (λ (one : Schema). one.tables) same in cc
