@@ -4,7 +4,7 @@ use Rattle.std.specs.Prelude.{IfSome, nat_le}
 use Rattle.std.specs.Io.KnownBytes.{Keeps}
 use Rattle.std.proofs.lemmas.List.Elements.{All-nil}
 use Rattle.clap.specs.declared.error.kind.ErrorKind.TheVariants.{OutOfMemory}
-use Rattle.sqlite_trees.specs.Tree.{Trees}
+use Rattle.sqlite.specs.declared.error.Error.{Error}
 use Rattle.sqlite.specs.Held.{Held}
 use Rattle.sqlite_trees.specs.declared.store.Store.{Ghosts}
 use Rattle.lab_forms_texts.specs.Faults.{memory_entry}
@@ -19,14 +19,17 @@ use Rattle.lab_copy_rows.specs.Copies.{verdict}
 use Rattle.lab_copy.specs.Checks.{csv_rows_of}
 use Rattle.lab_program_check.specs.declared.faults.StopFault.TheVariants.{Memory as StopMemory}
 use Rattle.lab_program_check.specs.Verdicts.{IsCheck}
+use Rattle.lab_program_opening.specs.declared.faults.OpenFault.{OpenFault}
 use Rattle.lab_program_opening.specs.Faults.{unopened_fault}
 use Rattle.lab_program_files.specs.FileWorlds.{file_keeper}
-use Rattle.lab_program_opening.specs.Files.{IsBlankAt, IsOpened, IsOurs, IsOursAnywhere}
+use Rattle.lab_program_opening.specs.Ends.{WasClosed, WasGivenUp}
+use Rattle.lab_program_opening.specs.Files.{IsOpened, IsOurs, IsOursAnywhere, IsUnmade, IsUnopened}
+use Rattle.lab_program_opening.specs.Volumes.{FileAt}
 use Rattle.lab_program_host.specs.Sources.{Drawing}
 use Rattle.lab_program_files.specs.Copying.{CopyTask}
 use Rattle.lab_program_replay.specs.Replays.{IsReplay, ReplaysFromNothing}
 use Rattle.lab_program_files.specs.Serving.{ServesFile}
-use Rattle.lab_program_moves.specs.Moves.{IsMigration}
+use Rattle.lab_program_moves.specs.Moves.{IsMigration, MoveTask}
 use Rattle.lab_program.specs.CommandLine.{IsDone}
 use Rattle.lab_program_app.specs.Explaining.{Stopped}
 use Rattle.lab_program.specs.Laboratories.{IsCopiedIf}
@@ -36,18 +39,27 @@ use Rattle.lab_program_words.specs.Tasks.{Asked, founds, serves, copies, migrate
 -- ---- each task, not begun
 
 module _ (before after told_before told_after : Option (List ℕ)) (status : Result ℕ Untold) where
-  no_serving : {S : Type 0} (keeper : KeeperOf S) (found opened : S → Type 0) (drawing : Drawing) (count : ℕ)
+  no_serving : {S : Type 0} (keeper : KeeperOf S) (found opened closed : S → Type 0)
+      (unopened : OpenFault → Type 0) (drawing : Drawing) (count : ℕ) → unopened unopened_fault
       → IsUnbegun before after told_before told_after status
-      → ServesFile keeper found opened drawing count (seen before after told_before told_after status)
-  no_serving keeper found opened drawing count told =
-      inr (inl (told.0, (unopened_fault, declines_task before after told_before told_after status told)))
+      → ServesFile keeper found opened closed unopened drawing count (seen before after told_before told_after status)
+  no_serving keeper found opened closed unopened drawing count cause told = (
+    None,
+    inr (inl (
+      (told.0, (unopened_fault, cause, declines_task before after told_before told_after status told)),
+      refl,
+    )),
+    tt,
+  )
 
-  no_migration : {S : Type 0} (disk : Ghosts S) (IsHeld : Trees → Type 0) (IsNew : Held S → Type 0)
+  no_migration : {S Volume : Type 0} (disk : Ghosts S) (files : Volume → List ℕ → FileAt)
+      (closed : Held S → Type 0) (task : MoveTask Volume)
       → IsUnbegun before after told_before told_after status
-      → IsMigration disk IsHeld IsNew (seen before after told_before told_after status)
-  no_migration disk IsHeld IsNew told = record {
+      → IsMigration disk files closed task (seen before after told_before told_after status)
+  no_migration disk files closed task told = record {
     ending = Err unopened_fault;
     moves = tt;
+    cause = inl tt;
     told = (told.0, declines_task before after told_before told_after status told);
   }
 
@@ -103,25 +115,29 @@ no_check (Some bytes) before after told_before told_after status told =
 
 -- ---- whichever is asked for
 
-module _ {S Volume : Type 0} (disk : Ghosts S) (holds : Volume → List ℕ → Trees → Type 0) (volume : Volume) (drawing : Drawing)
+module _ {S Volume : Type 0} (disk : Ghosts S) (files : Volume → List ℕ → FileAt)
+    (closes : Held S → Result (Unit {0}) Error → Type 0) (volume : Volume) (drawing : Drawing)
     (before after told_before told_after : Option (List ℕ))
     (status : Result ℕ Untold) where
-  no_copy_if : (IsHeld : Trees → Type 0) (task : CopyTask) (ordered : Bool) → IsUnbegun before after told_before told_after status
-      → IsCopiedIf disk IsHeld task ordered (seen before after told_before told_after status)
-  no_copy_if IsHeld task true told = never_begun before after told_before told_after status _
-      (no_copying before after told_before told_after status (file_keeper disk) task (IsOurs disk IsHeld))
+  no_copy_if : (file : FileAt) (task : CopyTask) (ordered : Bool) → IsUnbegun before after told_before told_after status
+      → IsCopiedIf disk file (WasClosed closes) task ordered (seen before after told_before told_after status)
+  no_copy_if file task true told = never_begun before after told_before told_after status _
+      (no_copying before after told_before told_after status (file_keeper disk) task (IsOurs disk file.holds) (WasClosed closes) (IsUnopened disk (WasClosed closes) file) (inl tt))
       (is_lab_code task.code) told
-  no_copy_if IsHeld task false told = (OutOfMemory, inl refl, told)
+  no_copy_if file task false told = (OutOfMemory, inl refl, told)
 
   pub never_done : (asked : Asked) (input : Option (List ℕ)) → IsUnbegun before after told_before told_after status
-      → IsDone disk holds volume drawing asked input (seen before after told_before told_after status)
+      → IsDone disk files closes volume drawing asked input (seen before after told_before told_after status)
   never_done (founds file lab) input told = never_begun before after told_before told_after status _
       (no_founding before after told_before told_after status (file_keeper disk)
-      (record { drawing = drawing; code = lab; body = input }) (IsOpened disk (holds volume file)))
+      (record { drawing = drawing; code = lab; body = input }) (IsOpened disk (files volume file).holds) (WasClosed closes)
+      (IsUnmade disk (WasClosed closes) (files volume file)) (inl (inl tt)))
       (is_lab_code lab) told
   never_done (serves file port count) input told =
-      no_serving before after told_before told_after status (file_keeper disk) (IsOurs disk (holds volume file)) (IsOursAnywhere disk holds) drawing count told
-  never_done (copies file lab from to) input told = no_copy_if (holds volume file) (record {
+      no_serving before after told_before told_after status (file_keeper disk) (IsOurs disk (files volume file).holds) (IsOursAnywhere disk files)
+      (WasGivenUp closes files) (IsUnopened disk (WasClosed closes) (files volume file)) drawing count
+      (inl tt) told
+  never_done (copies file lab from to) input told = no_copy_if (files volume file) (record {
     moments = drawing.moments;
     later = drawing.later;
     code = lab;
@@ -129,14 +145,15 @@ module _ {S Volume : Type 0} (disk : Ghosts S) (holds : Volume → List ℕ → 
     to = to;
   }) (nat_le from to) told
   never_done (migrates old new) input told =
-      no_migration before after told_before told_after status disk (holds volume old) (IsBlankAt disk holds new) told
+      no_migration before after told_before told_after status disk files (WasClosed closes)
+      (record { volume = volume; old = old; new = new }) told
   never_done checks input told = no_check input before after told_before told_after status told
   never_done replays input told = no_replay input before after told_before told_after status told
   never_done (rehearses lab moment) input told = never_begun before after told_before told_after status _
       (no_rehearsal before after told_before told_after status lab input) (is_lab_code lab) told
 
   pub done_as : (asked other : Asked) (input : Option (List ℕ)) → asked ≡ other
-      → IsDone disk holds volume drawing other input (seen before after told_before told_after status)
-      → IsDone disk holds volume drawing asked input (seen before after told_before told_after status)
+      → IsDone disk files closes volume drawing other input (seen before after told_before told_after status)
+      → IsDone disk files closes volume drawing asked input (seen before after told_before told_after status)
   done_as asked other input is done =
-      subst (λ a. IsDone disk holds volume drawing a input (seen before after told_before told_after status)) (sym is) done
+      subst (λ a. IsDone disk files closes volume drawing a input (seen before after told_before told_after status)) (sym is) done

@@ -1,6 +1,6 @@
 -- Of the tasks of one laboratory: its name is a code, or none is begun; and nothing was begun since
 -- memory ran out.
-use Rattle.std.proofs.Common.{◌≡◌, ℕ, List, [], Option, Some, None, Result, Err, Bool, true, false}
+use Rattle.std.proofs.Common.{◌≡◌, ℕ, List, [], Option, Some, None, Result, Err, Bool, true, false, inl}
 use Rattle.std.specs.Prelude.{IfSome}
 use Rattle.std.specs.Io.KnownBytes.{Appends, Keeps}
 use Rattle.std.proofs.KnownBytes.{Appends-kept, Appends-nil}
@@ -15,6 +15,7 @@ use Rattle.lab_program_host.specs.TaskEnds.{TaskEnd}
 use Rattle.lab_program_serve.specs.RehearseTask.{FoundsBy, IsRehearsal}
 use Rattle.lab_program_host.specs.declared.faults.RehearsalFault.TheVariants.{Server as RehearsalServer}
 use Rattle.lab_program_host.specs.declared.faults.ServerFault.TheVariants.{Memory as ServerMemory}
+use Rattle.lab_program_opening.specs.declared.faults.OpenFault.{OpenFault}
 use Rattle.lab_program_opening.specs.Faults.{Declines as DeclinesTask, unopened_fault}
 use Rattle.lab_program_files.specs.Copying.{CopyTask, IsCopying}
 use Rattle.lab_program_files.specs.Foundings.{FoundTask, IsFounding}
@@ -73,24 +74,28 @@ module _ (before after told_before told_after : Option (List ℕ)) (status : Res
   pub declines_task : IsUnbegun before after told_before told_after status → DeclinesTask unopened_fault status told_before told_after
   declines_task told = told.1
 
-  pub no_founding : {S : Type 0} (keeper : KeeperOf S) (task : FoundTask) (opened : S → Type 0)
+  pub no_founding : {S : Type 0} (keeper : KeeperOf S) (task : FoundTask)
+      (opened closed : S → Type 0) (unmade : OpenFault → Type 0) → unmade unopened_fault
       → IsUnbegun before after told_before told_after status
-      → IsFounding keeper task opened (seen before after told_before told_after status)
-  no_founding keeper task opened told = record {
+      → IsFounding keeper task opened closed unmade (seen before after told_before told_after status)
+  no_founding keeper task opened closed unmade cause told = record {
     ending = Err unopened_fault;
     ends = tt;
     prints = tt;
     unbegun = told.0;
+    cause = cause;
     told = declines_task told;
   }
 
-  pub no_copying : {S : Type 0} (keeper : KeeperOf S) (task : CopyTask) (opened : S → Type 0)
+  pub no_copying : {S : Type 0} (keeper : KeeperOf S) (task : CopyTask)
+      (opened closed : S → Type 0) (unopened : OpenFault → Type 0) → unopened unopened_fault
       → IsUnbegun before after told_before told_after status
-      → IsCopying keeper task opened (seen before after told_before told_after status)
-  no_copying keeper task opened told = record {
+      → IsCopying keeper task opened closed unopened (seen before after told_before told_after status)
+  no_copying keeper task opened closed unopened cause told = record {
     ending = Err unopened_fault;
     copies = tt;
     unbegun = told.0;
+    cause = inl cause;
     told = declines_task told;
   }
 

@@ -14,7 +14,7 @@ use Rattle.lab_program_host.specs.declared.faults.ServerFault.TheVariants.{Read,
 use Rattle.lab_program_opening.specs.declared.faults.OpenFault.{OpenFault}
 use Rattle.lab_program_serve.specs.Rehearsals.{rehearsal_tick}
 use Rattle.lab_program_serve.specs.RehearseTask.{FoundsBy, IsRehearsal}
-use Rattle.lab_program_files.specs.Foundings.{Ends, EndsFounding, EndsOver, FoundTask, IsFoundedAt, IsFounding, IsRefusedAt}
+use Rattle.lab_program_files.specs.Foundings.{Ends, EndsClosed, EndsFounding, EndsOver, FoundTask, IsFoundedAt, IsFounding, IsRefusedAt}
 use Rattle.lab_program.specs.Laboratories.{front_of}
 
 -- what is said of the first bytes of an input, said of the input
@@ -65,22 +65,31 @@ module _ {S : Type 0} (keeper : KeeperOf S) (drawing : Drawing) (code : List ℕ
       (λ bytes. EndsFounding keeper (task_of drawing code input) bytes old new ending)
       (λ bytes. ends_as (take 1000001 bytes) bytes old new ending (front_says bytes)) (ends honest reached)
 
-  over_whole : (opened : S → Type 0) (ending : Result (Result (Unit {0}) RehearsalFault) OpenFault)
-      → IfOk ending (EndsOver keeper (task_of drawing code (front_of input)) opened)
-      → IfOk ending (EndsOver keeper (task_of drawing code input) opened)
-  over_whole opened (Ok ending) over =
+  over_whole : (opened : S → Type 0) (ending : Result (Unit {0}) RehearsalFault)
+      → EndsOver keeper (task_of drawing code (front_of input)) opened ending
+      → EndsOver keeper (task_of drawing code input) opened ending
+  over_whole opened ending over =
       (over.0, over.1, over.2, ends_whole over.0 over.1 ending over.3, over.4)
-  over_whole opened (Err fault) over = tt
+
+  closed_whole : (opened closed : S → Type 0)
+      (ending : Result (Result (Unit {0}) RehearsalFault) OpenFault)
+      → IfOk ending (EndsClosed keeper (task_of drawing code (front_of input)) opened closed)
+      → IfOk ending (EndsClosed keeper (task_of drawing code input) opened closed)
+  unfolding over_whole
+  closed_whole opened closed (Ok ending) ends =
+      (ends.0, (over_whole opened ending ends.1.0, ends.1.1), ends.2)
+  closed_whole opened closed (Err fault) ends = tt
 
   -- a founding from the first bytes of an input is one from all of it
-  pub founding_whole : (opened : S → Type 0) (end : TaskEnd)
-      → IsFounding keeper (task_of drawing code (front_of input)) opened end
-      → IsFounding keeper (task_of drawing code input) opened end
-  founding_whole opened end founding = record {
+  pub founding_whole : (opened closed : S → Type 0) (unmade : OpenFault → Type 0) (end : TaskEnd)
+      → IsFounding keeper (task_of drawing code (front_of input)) opened closed unmade end
+      → IsFounding keeper (task_of drawing code input) opened closed unmade end
+  founding_whole opened closed unmade end founding = record {
     ending = founding.ending;
-    ends = over_whole opened founding.ending founding.ends;
+    ends = closed_whole opened closed founding.ending founding.ends;
     prints = founding.prints;
     unbegun = founding.unbegun;
+    cause = founding.cause;
     told = founding.told;
   }
 

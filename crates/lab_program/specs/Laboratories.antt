@@ -2,8 +2,8 @@
 use Rattle.std.specs.Prelude.{ℕ, Bool, true, false, List, [], ◌∷◌, Option, Err, option_map, take}
 use Rattle.std.specs.Io.KnownBytes.{Keeps}
 use Rattle.clap.specs.declared.error.kind.ErrorKind.TheVariants.{ValueValidation}
-use Rattle.sqlite_trees.specs.Tree.{Trees}
 use Rattle.sqlite_trees.specs.declared.store.Store.{Ghosts}
+use Rattle.sqlite.specs.Held.{Held}
 use Rattle.lab_forms_texts.specs.Faults.{name_fault_entry}
 use Rattle.lab_forms_texts.specs.Names.{is_lab_code}
 use Rattle.lab_forms_texts.specs.declared.faults.BadName.{BadName}
@@ -11,7 +11,8 @@ use Rattle.lab_forms_texts.specs.declared.refusals.Fault.{Fault}
 use Rattle.lab_program_host.specs.Faults.{PrintsFault}
 use Rattle.lab_program_host.specs.TaskEnds.{TaskEnd}
 use Rattle.lab_program_serve.specs.RehearseTask.{IsRehearsal}
-use Rattle.lab_program_opening.specs.Files.{IsOpened, IsOurs}
+use Rattle.lab_program_opening.specs.Files.{IsOpened, IsOurs, IsUnmade, IsUnopened}
+use Rattle.lab_program_opening.specs.Volumes.{FileAt}
 use Rattle.lab_program_files.specs.Copying.{CopyTask, IsCopying}
 use Rattle.lab_program_files.specs.FileWorlds.{file_keeper}
 use Rattle.lab_program_files.specs.Foundings.{FoundTask, IsFounding}
@@ -38,16 +39,18 @@ module _ (end : TaskEnd) (Done : Type 0) where
 
 -- ---- each task
 
-module _ {S : Type 0} (disk : Ghosts S) (IsHeld : Trees → Type 0) where
+module _ {S : Type 0} (disk : Ghosts S) (file : FileAt) (closed : Held S → Type 0) where
   -- a founding in a file that held this, from this body, at the tick that was drawn
   abbrev pub IsFounded : FoundTask → TaskEnd → Type 0
   IsFounded task end =
-      OfCode end (IsFounding (file_keeper disk) task (IsOpened disk IsHeld) end) task.code
+      OfCode end (IsFounding (file_keeper disk) task (IsOpened disk file.holds) closed
+      (IsUnmade disk closed file) end) task.code
 
   -- a copy of the records of a file's laboratory, at the moment that the clock gave
   abbrev pub IsCopied : CopyTask → TaskEnd → Type 0
   IsCopied task end =
-      OfCode end (IsCopying (file_keeper disk) task (IsOurs disk IsHeld) end) task.code
+      OfCode end (IsCopying (file_keeper disk) task (IsOurs disk file.holds) closed
+      (IsUnopened disk closed file) end) task.code
 
   -- by whether its range begins before it ends, or there: one that doesn't is a fault in the words
   abbrev pub IsCopiedIf : CopyTask → Bool → TaskEnd → Type 0

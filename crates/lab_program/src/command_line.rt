@@ -33,7 +33,7 @@ fn do_task<N: Net, H: Volume, C: Clock, X: Chance, P: Progress, R: Read + Drop, 
 where
     Connection<H::Disk>: Closable,
     ensures { (asked : Asked) → IsTask task.entry asked →
-        IsDone H.Disk.Store H.holds host.old.volume
+        IsDone H.Disk.Store H.file ⟦<Connection<H::Disk> as Closable>⟧.closes host.old.volume
         (drawing_of (C.coming host.old.clock) (C.coming host.new.clock)
         (X.coming host.old.chance) (X.coming host.new.chance)) asked (R.remaining input) (record {
           before = W.contents output.old;
@@ -87,7 +87,7 @@ pub fn labdesk<
 where
     Connection<H::Disk>: Closable,
     ensures done { (asked : Asked) → AsksTask asked (map S.text words.now) →
-        IsDone H.Disk.Store H.holds host.old.volume
+        IsDone H.Disk.Store H.file ⟦<Connection<H::Disk> as Closable>⟧.closes host.old.volume
         (drawing_of (C.coming host.old.clock) (C.coming host.new.clock)
         (X.coming host.old.chance) (X.coming host.new.chance)) asked (R.remaining input) (record {
           before = W.contents output.old;

@@ -6,6 +6,7 @@ ghost use Rattle.lab_forms_texts.specs.Moment.{is_moment};
 ghost use Rattle.lab_forms_texts.specs.Ordinals.{is_ordinal};
 ghost use Rattle.lab_program_host.specs.Faults.{PrintsFault};
 ghost use Rattle.lab_program_host.specs.Sources.{drawing_of};
+ghost use Rattle.lab_program_opening.specs.Ends.{WasClosed};
 ghost use Rattle.lab_program.specs.Laboratories.{IsCopied, IsCopiedIf, IsFounded, IsRehearsed, front_of};
 
 use lab_forms_streams::WriteFault;
@@ -54,18 +55,19 @@ pub fn found_for<N, H: Volume, C: Clock, X: Chance, P, R: Read + Drop, W: Write,
 ) -> Result<u8, WriteFault>
 where
     Connection<H::Disk>: Closable,
-    ensures { IsFounded H.Disk.Store (H.holds host.old.volume file.now) (record {
-      drawing = drawing_of (C.coming host.old.clock) (C.coming host.new.clock)
-          (X.coming host.old.chance) (X.coming host.new.chance);
-      code = lab.now;
-      body = R.remaining input;
-    }) (record {
-      before = W.contents output.old;
-      after = W.contents output.new;
-      told_before = E.contents errors.old;
-      told_after = E.contents errors.new;
-      status = result;
-    }) }
+    ensures { IsFounded H.Disk.Store (H.file host.old.volume file.now)
+        (WasClosed ⟦<Connection<H::Disk> as Closable>⟧.closes) (record {
+          drawing = drawing_of (C.coming host.old.clock) (C.coming host.new.clock)
+              (X.coming host.old.chance) (X.coming host.new.chance);
+          code = lab.now;
+          body = R.remaining input;
+        }) (record {
+          before = W.contents output.old;
+          after = W.contents output.new;
+          told_before = E.contents errors.old;
+          told_after = E.contents errors.new;
+          status = result;
+        }) }
 {
     let code = match LabCode::parse(host.alloc, lab) {
         Ok(code) => code,
@@ -98,19 +100,20 @@ fn copy_range<N, H: Volume, C: Clock, X, P: Progress, W: Write, E: Write>(
 ) -> Result<u8, WriteFault>
 where
     Connection<H::Disk>: Closable,
-    ensures { IsCopied H.Disk.Store (H.holds host.old.volume file.now) (record {
-      moments = C.coming host.old.clock;
-      later = C.coming host.new.clock;
-      code = lab.now;
-      from = from;
-      to = to;
-    }) (record {
-      before = W.contents output.old;
-      after = W.contents output.new;
-      told_before = E.contents errors.old;
-      told_after = E.contents errors.new;
-      status = result;
-    }) }
+    ensures { IsCopied H.Disk.Store (H.file host.old.volume file.now)
+        (WasClosed ⟦<Connection<H::Disk> as Closable>⟧.closes) (record {
+          moments = C.coming host.old.clock;
+          later = C.coming host.new.clock;
+          code = lab.now;
+          from = from;
+          to = to;
+        }) (record {
+          before = W.contents output.old;
+          after = W.contents output.new;
+          told_before = E.contents errors.old;
+          told_after = E.contents errors.new;
+          status = result;
+        }) }
 {
     let code = match LabCode::parse(host.alloc, lab) {
         Ok(code) => code,
@@ -140,7 +143,8 @@ pub fn copy_for<N, H: Volume, C: Clock, X, P: Progress, W: Write, E: Write>(
 where
     Connection<H::Disk>: Closable,
     ensures { IsTrue (is_ordinal from) → IsTrue (is_ordinal to) →
-        IsCopiedIf H.Disk.Store (H.holds host.old.volume file.now) (record {
+        IsCopiedIf H.Disk.Store (H.file host.old.volume file.now)
+        (WasClosed ⟦<Connection<H::Disk> as Closable>⟧.closes) (record {
           moments = C.coming host.old.clock;
           later = C.coming host.new.clock;
           code = lab.now;

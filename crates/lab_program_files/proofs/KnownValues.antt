@@ -1,10 +1,18 @@
 -- Values from outside, computed on the definitions: small instances of what a founding printed and of a tick that was drawn.
-use Rattle.std.proofs.Common.{codes, lit<, refl, ap, ℕ, List, [], ◌∷◌, true≢false, Some, Ok, Err}
+use Rattle.std.proofs.Common.{codes, lit<, refl, ap, ℕ, List, [], ◌∷◌, true≢false, Some, Ok, Err, inl, inr}
 use Rattle.std.specs.Str.{bytes_eq}
+use Rattle.sqlite_disk.specs.declared.Disk.{Ghosts as DiskOf}
+use Rattle.sqlite_wal.proofs.LogLemmas.{SeenMayStay}
+use Rattle.sqlite_wal.specs.Files.{seen_image}
+use Rattle.sqlite_wal.specs.Reads.{AreClean}
+use Rattle.sqlite_store.specs.declared.store.FileStore.{FileStore}
+use Rattle.sqlite.specs.Held.{Held}
+use Rattle.lab_program_opening.specs.Ends.{IsLeftWhole}
 use Rattle.lab_program_host.specs.declared.faults.ServerFault.TheVariants.{Write, Memory}
 use Rattle.lab_program_host.specs.declared.faults.RehearsalFault.TheVariants.{Server}
 use Rattle.lab_program_host.specs.Sources.{IsDrawn, drawing_of}
 use Rattle.lab_program_files.specs.Foundings.{Prints}
+use Rattle.lab_program_files.specs.Stops.{Lies}
 
 -- the whole line, or a part where the output failed; where memory ran out, nothing
 pub known_printed : Prints (codes "founded aqua\n") (Ok tt) (Some []) (Some (codes "founded aqua\n"))
@@ -23,3 +31,26 @@ pub known_drawn :
     IsDrawn (drawing_of (Some (7 ∷ 8 ∷ [])) (Some (8 ∷ [])) (Some ((1 ∷ []) ∷ [])) (Some []))
     (record { moment = 7; words = 1 ∷ [] })
 known_drawn = ((8 ∷ [], refl, refl), ([], refl, refl))
+
+-- where a close left both files whole on an honest disk, what reads there is such as may lie there,
+-- and so is the database file without its log
+pub known_closed : {D : Type 0} {g : DiskOf D} → SeenMayStay g → (last : Held (FileStore D g))
+    (whole : IsLeftWhole last) → AreClean g whole.files.log whole.files.db →
+    Lies last (seen_image g whole.files.log whole.files.db)
+    × Lies last (record (seen_image g whole.files.log whole.files.db) { log = [] })
+known_closed {g} stays last whole clean = (
+  inr (
+    (Ok tt, whole),
+    (
+      clean,
+      (g.seen whole.files.log, (stays whole.files.log, stays whole.files.db), inl refl),
+    ),
+  ),
+  inr (
+    (Ok tt, whole),
+    (
+      clean,
+      (g.seen whole.files.log, (stays whole.files.log, stays whole.files.db), inr refl),
+    ),
+  ),
+)

@@ -1,3 +1,4 @@
+pub mod CopyLemmas
 pub mod FoundingLemmas
 pub mod HistoryLemmas
 pub mod KnownValues

@@ -53,4 +53,4 @@ pub stop_left : {D : Type 0} {g : DiskOf D} (stays : SeenMayStay g) (last : Held
 stop_left stays last connected clean held (inl crash) was found =
     next_run last.store (connected.numbered clean) (connected.found clean) held crash was found
 stop_left stays last connected clean held (inr shut) was found =
-    closed_left stays last shut.0 shut.1 held shut.2 was found
+    closed_left stays last shut.0.0 shut.0.1 held shut.1 was found

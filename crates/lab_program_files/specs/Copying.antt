@@ -1,5 +1,5 @@
 -- The inspection copy of a laboratory of a file (21 CFR 11.10(b); docs/COPIES.md has its text).
-use Rattle.std.specs.Prelude.{◌≡◌, ℕ, List, [], ◌∷◌, Option, Some, None, Result, IfErr, IfOk, IsSome}
+use Rattle.std.specs.Prelude.{◌≡◌, ◌⊎◌, ℕ, List, [], ◌∷◌, Option, Some, None, Result, IfErr, IfOk, IsSome}
 use Rattle.std.specs.Io.KnownBytes.{Keeps}
 use Rattle.lab_records_keeper.specs.declared.keeper.Keeper.{Ghosts}
 use Rattle.lab_records_keeper.specs.Worlds.{Given}
@@ -11,6 +11,7 @@ use Rattle.lab_records_copy_out.specs.Faults.{CopyFaultFits, copy_fault_word}
 use Rattle.lab_records_copy_out.specs.Resting.{IsOnlyRead}
 use Rattle.lab_records_copy_out.specs.Walks.{CanWalk, copy_text, desk_order}
 use Rattle.lab_program_opening.specs.declared.faults.OpenFault.{OpenFault}
+use Rattle.lab_program_opening.specs.declared.faults.OpenFault.TheVariants.{Drawing}
 use Rattle.lab_program_opening.specs.Faults.{TellsTask}
 
 -- what the task `copy` is given
@@ -50,11 +51,18 @@ module _ {S : Type 0} (keeper : Ghosts S) (task : CopyTask) (opened : S → Type
   abbrev pub CopiesTo : Result (Unit {0}) CopyOutFault → Option S → Type 0
   CopiesTo ending finished = (copies : Copies ending) × (finished ≡ Some copies.new)
 
--- the task `copy`, by its status and what was told: where the file wasn't opened or the clock
--- failed, nothing went out
-pub record IsCopying {S : Type 0} (keeper : Ghosts S) (task : CopyTask) (opened : S → Type 0)
-    (end : TaskEnd) : Type 0 where
-  pub ending : Result (Result (Unit {0}) CopyOutFault) OpenFault
-  pub copies : IfOk ending (Copies keeper task opened end.before end.after)
-  pub unbegun : IfErr ending (λ _. Keeps end.before end.after)
-  pub told : TellsTask copy_fault_word ending end.status end.told_before end.told_after
+-- the task `copy`, by its status and what was told: the keeper was closed as the copy left it
+module _ {S : Type 0} (keeper : Ghosts S) (task : CopyTask) (opened closed : S → Type 0)
+    (unopened : OpenFault → Type 0) where
+  -- why no copy was begun: the file wasn't opened; or the clock failed, and the file was closed
+  abbrev pub IsUnbegun : OpenFault → Type 0
+  IsUnbegun fault = unopened fault
+      ⊎ ((fault ≡ Drawing) × ((conn : S) × opened conn × closed conn))
+
+  pub record IsCopying (end : TaskEnd) : Type 0 where
+    pub ending : Result (Result (Unit {0}) CopyOutFault) OpenFault
+    pub copies : IfOk ending (λ copied.
+        (copies : Copies keeper task opened end.before end.after copied) × closed copies.new)
+    pub unbegun : IfErr ending (λ _. Keeps end.before end.after)
+    pub cause : IfErr ending IsUnbegun
+    pub told : TellsTask copy_fault_word ending end.status end.told_before end.told_after

@@ -10,6 +10,7 @@ use Rattle.lab_records_keeper.specs.Worlds.{World}
 use Rattle.lab_store_tables.specs.Ready.{tables_of}
 use Rattle.lab_store_tables.specs.Placing.{PlacesLab}
 use Rattle.lab_store_laws.specs.Steps.{AreMadeIfAny}
+use Rattle.lab_store.specs.Causes.{RefusesCommit, RefusesLoad, RefusesNewborn}
 use Rattle.lab_store.specs.StoreWorlds.{world_of}
 
 module _ {S : Type 0} (disk : Ghosts S) where
@@ -37,4 +38,7 @@ module _ {S : Type 0} (disk : Ghosts S) where
     rests = file_rests;
     moves = file_moves;
     places = file_places;
+    refuses_load = RefusesLoad disk;
+    refuses_changes = RefusesCommit disk;
+    refuses_founding = RefusesNewborn disk;
   }

@@ -102,12 +102,19 @@ module _ {S : Type 0} (keeper : Ghosts S) (task : FoundTask) where
     EndsAs ending finished = (ends : EndsOver ending) × ((finished ≡ Some ends.1)
         ⊎ ((finished ≡ None) × (ending ≡ Err (Server Memory))))
 
+    -- so it ended, and what was left to be closed was closed
+    abbrev pub EndsClosed : (S → Type 0) → Result (Unit {0}) FoundingFault → Type 0
+    EndsClosed closed ending =
+        (finished : Option S) × EndsAs ending finished × IfSome finished closed
+
     -- the task `found`, by its status, what was printed and what was told: where the file wasn't
-    -- made or opened, nothing was printed
-    pub record IsFounding (end : TaskEnd) : Type 0 where
+    -- made or opened, that has its cause, and nothing was printed
+    pub record IsFounding (closed : S → Type 0) (unmade : OpenFault → Type 0) (end : TaskEnd) :
+        Type 0 where
       pub ending : Result (Result (Unit {0}) FoundingFault) OpenFault
-      pub ends : IfOk ending EndsOver
+      pub ends : IfOk ending (EndsClosed closed)
       pub prints : IfOk ending (λ founding.
           Prints (founded_line task.code) founding end.before end.after)
       pub unbegun : IfErr ending (λ _. Keeps end.before end.after)
+      pub cause : IfErr ending unmade
       pub told : TellsTask rehearsal_fault_word ending end.status end.told_before end.told_after

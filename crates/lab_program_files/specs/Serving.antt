@@ -10,34 +10,34 @@ use Rattle.lab_forms_streams.specs.Sending.{read_fault_word}
 use Rattle.lab_program_opening.specs.declared.faults.OpenFault.{OpenFault}
 use Rattle.lab_program_opening.specs.Faults.{Declines, TellsWord}
 
-module _ {S : Type 0} (keeper : Ghosts S) (found opened : S → Type 0) (drawing : Drawing)
-    (count : ℕ) (end : TaskEnd) where
+module _ {S : Type 0} (keeper : Ghosts S) (found opened closed : S → Type 0)
+    (unopened : OpenFault → Type 0) (drawing : Drawing) (count : ℕ) (end : TaskEnd) where
   -- from the keeper of the file that was found on so many connections were served, unless a fault
   -- came, which was told; over each keeper that was opened each laboratory stays within its limits
   -- and has all that was recorded; and this one is left to be closed
   abbrev pub ServesTo : Option S → Type 0
   ServesTo finished = (first : Served S) × (left : Option (Served S)) × found first.keeper
-      × IsServing keeper opened (Some first) left drawing count end
+      × IsServing keeper opened closed (Some first) left drawing count end
       × (finished ≡ option_map (λ desk. desk.keeper) left)
 
-  abbrev pub Serves : Type 0
-  Serves = (finished : Option S) × ServesTo finished
-
-  -- nothing was served, and why was told: the file wasn't opened, or memory ran out
+  -- nothing was served, and why was told: the file wasn't opened, which has its cause, or memory ran
+  -- out
   abbrev pub DeclinesToServe : Type 0
   DeclinesToServe = Keeps end.before end.after
-      × ((fault : OpenFault) × Declines fault end.status end.told_before end.told_after)
+      × ((fault : OpenFault) × unopened fault
+      × Declines fault end.status end.told_before end.told_after)
 
   -- nothing was served, since no port was listened at, and that was told
   abbrev pub DeclinesToListen : Type 0
   DeclinesToListen = Keeps end.before end.after
       × TellsWord read_fault_word end.status end.told_before end.told_after
 
-  abbrev pub ServesFile : Type 0
-  ServesFile = Serves ⊎ DeclinesToServe ⊎ DeclinesToListen
-
   -- so it ended, by what is left to be closed: where no port was listened at, it is the keeper that
   -- was found, if any was
   abbrev pub ServesAs : Option S → Type 0
   ServesAs finished = ServesTo finished ⊎ (DeclinesToServe × (finished ≡ None))
       ⊎ (DeclinesToListen × IfSome finished found)
+
+  -- the task `serve`: what was left to be closed was closed
+  abbrev pub ServesFile : Type 0
+  ServesFile = (finished : Option S) × ServesAs finished × IfSome finished closed

@@ -11,7 +11,7 @@ use Rattle.sqlite_store.specs.declared.store.FileStore.{FileStore}
 use Rattle.sqlite_store.specs.FileStore.{state as pages_of, view}
 use Rattle.sqlite.specs.declared.error.Error.{Error}
 use Rattle.sqlite.specs.Held.{Held}
-use Rattle.lab_program_opening.specs.Ends.{Closes}
+use Rattle.lab_program_opening.specs.Ends.{Closes, WasClosed}
 
 -- two files that a close left whole lie there, as a crash may leave them; or the database file
 -- alone, without its log
@@ -21,8 +21,8 @@ LieWhole g files held = (log : List ℕ) × outcomes g files.log files.db (recor
 
 module _ {D : Type 0} {g : DiskOf D} where
   -- what lies there once the connection was closed, by what its close came to (`close_whole` of a
-  -- connection over files), where the disk returned what was written. After a fault it is what a
-  -- crash may leave of the store that was to be closed
+  -- connection over files, which the tasks name by `WasClosed`), where the disk returned what was
+  -- written. After a fault it is what a crash may leave of the store that was to be closed
   abbrev pub LiesClosed : (last : Held (FileStore D g)) (closing : Result (Unit {0}) Error) →
       Closes last closing → Image → Type 0
   LiesClosed last (Ok _) whole held =
@@ -34,5 +34,4 @@ module _ {D : Type 0} {g : DiskOf D} where
   -- left it, or what its close left
   abbrev pub Lies : Held (FileStore D g) → Image → Type 0
   Lies last held = (pages_of last.store).may_leave held
-      ⊎ ((closing : Result (Unit {0}) Error) × (closes : Closes last closing)
-      × LiesClosed last closing closes held)
+      ⊎ ((shut : WasClosed Closes last) × LiesClosed last shut.0 shut.1 held)

@@ -1,10 +1,11 @@
 //! `labdesk copy`: the inspection copy of a laboratory of a file.
 
-ghost use Rattle.std.specs.Prelude.{IfErr, IfOk, IfSome};
+ghost use Rattle.std.specs.Prelude.{◌≡◌, IfErr, IfOk, IfSome, MatchOption};
 ghost use Rattle.std.specs.Io.KnownBytes.{Keeps};
 ghost use Rattle.lab_program_files.specs.Copying.{CopiesTo, IsCopying};
 ghost use Rattle.lab_program_files.specs.FileWorlds.{file_keeper};
-ghost use Rattle.lab_program_opening.specs.Files.{IsOurs};
+ghost use Rattle.lab_program_opening.specs.Ends.{WasClosed};
+ghost use Rattle.lab_program_opening.specs.Files.{IsOurs, IsUnopened};
 
 use lab_forms_streams::WriteFault;
 use lab_forms_texts::{LabCode, Ordinal};
@@ -35,12 +36,17 @@ where
       code = lab.now;
       from = from;
       to = to;
-    }) (IsOurs H.Disk.Store (H.holds host.old.volume path.now))
+    }) (IsOurs H.Disk.Store (H.file host.old.volume path.now).holds)
         (W.contents output.old) (W.contents output.new) ending result.finished) }
     ensures unbegun { IfErr result.ending
         (λ _. Keeps (W.contents output.old) (W.contents output.new)) }
     ensures untouched { IfErr result.ending (λ _. IfSome result.finished
-        (IsOurs H.Disk.Store (H.holds host.old.volume path.now))) }
+        (IsOurs H.Disk.Store (H.file host.old.volume path.now).holds)) }
+    ensures cause { IfErr result.ending (λ fault. MatchOption result.finished
+        (IsUnopened H.Disk.Store
+        (WasClosed ⟦<Connection<H::Disk> as Closable>⟧.closes)
+        (H.file host.old.volume path.now) fault)
+        (λ _. fault ≡ OpenFault.Drawing)) }
 {
     let conn = match open_file(host.alloc, &mut host.volume, path) {
         Ok(conn) => conn,
@@ -100,13 +106,17 @@ where
       code = lab.now;
       from = from;
       to = to;
-    }) (IsOurs H.Disk.Store (H.holds host.old.volume path.now)) (record {
-      before = W.contents output.old;
-      after = W.contents output.new;
-      told_before = E.contents errors.old;
-      told_after = E.contents errors.new;
-      status = result;
-    }) }
+    }) (IsOurs H.Disk.Store (H.file host.old.volume path.now).holds)
+        (WasClosed ⟦<Connection<H::Disk> as Closable>⟧.closes)
+        (IsUnopened H.Disk.Store
+        (WasClosed ⟦<Connection<H::Disk> as Closable>⟧.closes)
+        (H.file host.old.volume path.now)) (record {
+          before = W.contents output.old;
+          after = W.contents output.new;
+          told_before = E.contents errors.old;
+          told_after = E.contents errors.new;
+          status = result;
+        }) }
 {
     match copy_file(host, path, lab, from, to, output).close() {
         Ok(Ok(())) => Ok(0),

@@ -2,7 +2,8 @@
 
 ghost use Rattle.lab_desk_foundings.specs.Foundings.{founded_line};
 ghost use Rattle.lab_program_files.specs.FileWorlds.{file_keeper};
-ghost use Rattle.lab_program_opening.specs.Files.{IsOpened};
+ghost use Rattle.lab_program_opening.specs.Ends.{WasClosed};
+ghost use Rattle.lab_program_opening.specs.Files.{IsOpened, IsUnmade};
 ghost use Rattle.lab_program_files.specs.Foundings.{Ends, EndsAs, IsFounding, Prints};
 ghost use Rattle.lab_program_host.specs.Faults.{IsReaderFault};
 ghost use Rattle.lab_program_host.specs.Sources.{IsDrawn, drawing_of};
@@ -141,12 +142,15 @@ where
           (X.coming host.old.chance) (X.coming host.new.chance);
       code = lab.now;
       body = B.remaining body.old;
-    }) (IsOpened H.Disk.Store (H.holds host.old.volume path.now)) ending result.finished) }
+    }) (IsOpened H.Disk.Store (H.file host.old.volume path.now).holds) ending result.finished) }
     ensures prints { IfOk result.ending (λ ending. Prints (founded_line lab.now) ending
         (W.contents output.old) (W.contents output.new)) }
     ensures unbegun { IfErr result.ending
         (λ _. Keeps (W.contents output.old) (W.contents output.new)) }
     ensures unopened { IfErr result.ending (λ _. result.finished ≡ None) }
+    ensures cause { IfErr result.ending (IsUnmade H.Disk.Store
+        (WasClosed ⟦<Connection<H::Disk> as Closable>⟧.closes)
+        (H.file host.old.volume path.now)) }
 {
     let conn = match make_file(host.alloc, &mut host.volume, path) {
         Ok(conn) => conn,
@@ -193,13 +197,17 @@ where
           (X.coming host.old.chance) (X.coming host.new.chance);
       code = lab.now;
       body = B.remaining body.old;
-    }) (IsOpened H.Disk.Store (H.holds host.old.volume path.now)) (record {
-      before = W.contents output.old;
-      after = W.contents output.new;
-      told_before = E.contents errors.old;
-      told_after = E.contents errors.new;
-      status = result;
-    }) }
+    }) (IsOpened H.Disk.Store (H.file host.old.volume path.now).holds)
+        (WasClosed ⟦<Connection<H::Disk> as Closable>⟧.closes)
+        (IsUnmade H.Disk.Store
+        (WasClosed ⟦<Connection<H::Disk> as Closable>⟧.closes)
+        (H.file host.old.volume path.now)) (record {
+          before = W.contents output.old;
+          after = W.contents output.new;
+          told_before = E.contents errors.old;
+          told_after = E.contents errors.new;
+          status = result;
+        }) }
 {
     match found_in_file(host, path, lab, body, output).close() {
         Ok(Ok(())) => Ok(0),

@@ -1,5 +1,7 @@
 //! Who opens the file at a path, and opens it anew.
 
+ghost use Rattle.lab_program_opening.specs.Ends.{WasGivenUp};
+
 use lab_program_opening::{Closable, Finished, OpenFault, Volume, open_file};
 use lab_program_serve::Opener;
 use lab_records_keeper::{BadStore, KeeperFault};
@@ -26,6 +28,7 @@ impl<'a> FileOpener<'a> {
 pub fn close_uncut<H: Volume>(volume: &mut H, path: &str, finished: Finished<H::Disk>)
 where
     Connection<H::Disk>: Closable,
+    ensures { WasGivenUp ⟦<Connection<H::Disk> as Closable>⟧.closes H.file finished }
 {
     if volume.is_cut(path) {
         finished.let_go();
@@ -47,9 +50,16 @@ impl<'a, H: Volume> Opener<H, Store<H::Disk>> for FileOpener<'a>
 where
     Connection<H::Disk>: Closable,
 {
+    ghost use Rattle.lab_program_opening.specs.Ends.{WasGivenUp};
     ghost use Rattle.lab_program_opening.specs.Files.{IsOursAnywhere};
 
-    ghost opened = { IsOursAnywhere H.Disk.Store H.holds };
+    type Finished = Finished<H::Disk>;
+
+    ghost opened = { IsOursAnywhere H.Disk.Store H.file };
+
+    ghost closed = { WasGivenUp ⟦<Connection<H::Disk> as Closable>⟧.closes H.file };
+
+    ghost keeper_of = { λ finished. finished };
 
     fn is_there(&mut self, host: &mut H) -> bool {
         host.is_there(self.path)
@@ -62,7 +72,11 @@ where
         }
     }
 
-    fn close(&mut self, host: &mut H, keeper: Store<H::Disk>) {
-        close_uncut(host, self.path, Finished::new(keeper.into_connection()));
+    fn finish(&self, keeper: Store<H::Disk>) -> Finished<H::Disk> {
+        Finished::new(keeper.into_connection())
+    }
+
+    fn close(&mut self, host: &mut H, finished: Finished<H::Disk>) {
+        close_uncut(host, self.path, finished);
     }
 }

@@ -1,11 +1,12 @@
 //! `labdesk serve`: the laboratories of a file are served on a port of this machine.
 
 ghost use Rattle.lab_program_files.specs.FileWorlds.{file_keeper};
-ghost use Rattle.lab_program_opening.specs.Files.{IsOurs, IsOursAnywhere};
+ghost use Rattle.lab_program_opening.specs.Ends.{WasClosed, WasGivenUp};
+ghost use Rattle.lab_program_opening.specs.Files.{IsOurs, IsOursAnywhere, IsUnopened};
 ghost use Rattle.lab_program_opening.specs.Faults.{Declines};
 ghost use Rattle.lab_program_files.specs.Serving.{ServesAs, ServesFile};
 ghost use Rattle.lab_program_host.specs.Sources.{drawing_of};
-ghost use Rattle.std.specs.Prelude.{◌≡◌, option_map, IfOk, IsSomeAnd};
+ghost use Rattle.std.specs.Prelude.{◌≡◌, option_map, IfErr, IfOk, IsSomeAnd};
 
 use crate::opening::{FileOpener, close_uncut};
 use lab_forms_streams::WriteFault;
@@ -29,8 +30,11 @@ fn live_desk_opened<'p, H: Volume>(
 ) -> Result<LiveDesk<Store<H::Disk>, FileOpener<'p>>, OpenFault>
 where
     Connection<H::Disk>: Closable,
-    ensures { IfOk result (λ live_desk. IsSomeAnd live_desk (λ desk.
-        IsOurs H.Disk.Store (H.holds volume.old path.now) desk.keeper)) }
+    ensures ours { IfOk result (λ live_desk. IsSomeAnd live_desk (λ desk.
+        IsOurs H.Disk.Store (H.file volume.old path.now).holds desk.keeper)) }
+    ensures unopened { IfErr result (IsUnopened H.Disk.Store
+        (WasClosed ⟦<Connection<H::Disk> as Closable>⟧.closes)
+        (H.file volume.old path.now)) }
 {
     let conn = open_file(alloc, volume, path)?;
     let additions = Additions::of(conn.schema());
@@ -81,8 +85,12 @@ fn serve_file<N: Net, H: Volume, C: Clock, X: Chance, P, W: Write, E: Write>(
 where
     Connection<H::Disk>: Closable,
     ensures { ServesAs (file_keeper H.Disk.Store)
-        (IsOurs H.Disk.Store (H.holds host.old.volume path.now))
-        (IsOursAnywhere H.Disk.Store H.holds)
+        (IsOurs H.Disk.Store (H.file host.old.volume path.now).holds)
+        (IsOursAnywhere H.Disk.Store H.file)
+        (WasGivenUp ⟦<Connection<H::Disk> as Closable>⟧.closes H.file)
+        (IsUnopened H.Disk.Store
+        (WasClosed ⟦<Connection<H::Disk> as Closable>⟧.closes)
+        (H.file host.old.volume path.now))
         (drawing_of (C.coming host.old.clock) (C.coming host.new.clock)
         (X.coming host.old.chance) (X.coming host.new.chance)) count (record {
           before = W.contents output.old;
@@ -134,8 +142,12 @@ pub fn serve<N: Net, H: Volume, C: Clock, X: Chance, P, W: Write, E: Write>(
 where
     Connection<H::Disk>: Closable,
     ensures { ServesFile (file_keeper H.Disk.Store)
-        (IsOurs H.Disk.Store (H.holds host.old.volume path.now))
-        (IsOursAnywhere H.Disk.Store H.holds)
+        (IsOurs H.Disk.Store (H.file host.old.volume path.now).holds)
+        (IsOursAnywhere H.Disk.Store H.file)
+        (WasGivenUp ⟦<Connection<H::Disk> as Closable>⟧.closes H.file)
+        (IsUnopened H.Disk.Store
+        (WasClosed ⟦<Connection<H::Disk> as Closable>⟧.closes)
+        (H.file host.old.volume path.now))
         (drawing_of (C.coming host.old.clock) (C.coming host.new.clock)
         (X.coming host.old.chance) (X.coming host.new.chance)) count (record {
           before = W.contents output.old;

@@ -6,7 +6,7 @@ use Rattle.std.specs.Str.{bytes_eq}
 use Rattle.lab_desk_foundings.specs.declared.run_faults.ServeFault.TheVariants.{Read as Unread, Interim, Reply}
 use Rattle.lab_program_host.specs.declared.faults.ServerFault.TheVariants.{Read, Write, Memory}
 use Rattle.lab_program_host.specs.declared.faults.ConnectionFault.TheVariants.{Serving, Memory as NoBuffer}
-use Rattle.lab_program_host.specs.Faults.{server_fault_word, server_fault_number, fault_of_connection, told_line, PrintsFault}
+use Rattle.lab_program_host.specs.Faults.{server_fault_word, server_fault_number, connection_fault_word, connection_fault_number, fault_of_connection, told_line, PrintsFault}
 use Rattle.lab_program_host.specs.Sources.{GivesInOrder}
 
 -- ---- faults
@@ -25,6 +25,13 @@ known_numbers = (refl, refl, refl)
 pub known_connections : (fault_of_connection (Serving Unread) ≡ Read) × (fault_of_connection (Serving (Interim 3)) ≡ Write)
     × (fault_of_connection (Serving (Reply 0)) ≡ Write) × (fault_of_connection NoBuffer ≡ Memory)
 known_connections = (refl, refl, refl, refl)
+
+-- that fault is told by the same words, and want of memory alone has a number
+pub known_connection_faults : (connection_fault_word (Serving Unread) ≡ codes "read_fault")
+    × (connection_fault_word (Serving (Reply 0)) ≡ codes "write_fault")
+    × (connection_fault_word NoBuffer ≡ codes "memory")
+    × (connection_fault_number (Serving Unread) ≡ None) × (connection_fault_number NoBuffer ≡ Some 90)
+known_connection_faults = (refl, refl, refl, refl, refl)
 
 -- the status 0 tells nothing, the status 1 a fault; a fault with the status 0 there isn't
 pub known_status : PrintsFault server_fault_word (Ok tt) (Ok 0) (Some []) (Some [])

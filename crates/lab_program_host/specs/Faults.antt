@@ -9,6 +9,7 @@ use Rattle.lab_forms_streams.specs.Sending.{read_fault_word, write_fault_word}
 use Rattle.lab_desk_foundings.specs.declared.run_faults.ServeFault.{ServeFault}
 use Rattle.lab_desk_foundings.specs.declared.run_faults.ServeFault.TheVariants.{Read as Unread, Interim, Reply}
 use Rattle.lab_desk_foundings.specs.Faults.{found_fault_entry}
+use Rattle.lab_desk_foundings.specs.RunFaults.{serve_fault_word}
 use Rattle.lab_program_host.specs.declared.faults.ServerFault.{ServerFault}
 use Rattle.lab_program_host.specs.declared.faults.ServerFault.TheVariants.{Read, Write, Memory}
 use Rattle.lab_program_host.specs.declared.faults.ConnectionFault.{ConnectionFault}
@@ -34,6 +35,15 @@ IsReaderFault Read = Unit {0}
 IsReaderFault Write = ⊥
 IsReaderFault Memory = Unit {0}
 
+-- the word of a fault that ended a connection, and its number, where it has one
+abbrev pub connection_fault_word : ConnectionFault → List ℕ
+connection_fault_word (Serving fault) = serve_fault_word fault
+connection_fault_word NoBuffer = memory_entry.word
+
+abbrev pub connection_fault_number : ConnectionFault → Option ℕ
+connection_fault_number (Serving fault) = None
+connection_fault_number NoBuffer = Some memory_entry.number
+
 -- the fault of the program, by the fault of the one request of a rehearsal
 abbrev pub fault_of_connection : ConnectionFault → ServerFault
 fault_of_connection (Serving Unread) = Read
@@ -53,8 +63,8 @@ abbrev pub told_line : List ℕ → List ℕ
 told_line word = codes "labdesk: " ++ word ++ codes "\n"
 
 -- a line was told whole; where standard error failed, its first bytes were, and not all
-abbrev pub IsLinePrinted : {X : Type 0} → List ℕ → Result X Untold → Option (List ℕ) → Option (List ℕ) →
-    Type 0
+abbrev pub IsLinePrinted : {X : Type 0} → List ℕ → Result X Untold → Option (List ℕ) →
+    Option (List ℕ) → Type 0
 IsLinePrinted line (Ok _) before after = Appends before after line
 IsLinePrinted line (Err untold) before after =
     Appends before after (take untold.sent line) × (untold.sent < length line)

@@ -13,7 +13,8 @@ pub record IsPutAt (at : ℕ) (bytes old new : List ℕ) : Type 0 where
   pub has : HasAt at bytes new
   pub same_length : length new ≡ max (length old) (at + length bytes)
   pub before : (i : ℕ) → i < length old → i < at → slice_index new i ≡ slice_index old i
-  pub behind : (i : ℕ) → i < length old → at + length bytes ≤ i → slice_index new i ≡ slice_index old i
+  pub behind : (i : ℕ) → i < length old → at + length bytes ≤ i →
+      slice_index new i ≡ slice_index old i
 
 -- these bytes, and those that were written before, are written now
 abbrev pub AreWritten : ℕ → ℕ → (ℕ → Type 0) → (ℕ → Type 0) → Type 0

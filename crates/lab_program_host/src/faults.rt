@@ -1,7 +1,8 @@
-//! Why serving stopped, and why a rehearsal failed.
+//! Why serving stopped, why a connection ended, and why a rehearsal failed.
 
-ghost use Rattle.std.specs.Prelude.{◌≡◌};
-ghost use Rattle.lab_program_host.specs.Faults.{server_fault_number, server_fault_word, rehearsal_fault_word};
+ghost use Rattle.std.specs.Prelude.{◌≡◌, None};
+ghost use Rattle.lab_forms_streams.specs.Sending.{read_fault_word};
+ghost use Rattle.lab_program_host.specs.Faults.{server_fault_number, server_fault_word, connection_fault_number, connection_fault_word, rehearsal_fault_word};
 
 use crate::outside::DrawFault;
 use lab_desk_foundings::{FoundFault, ServeFault};
@@ -11,9 +12,36 @@ use std::alloc::AllocError;
 use std::{fmt, io};
 use thiserror::Error;
 
-/// A listener failed.
-#[derive(Clone, Copy, Debug, PartialEq, Eq)]
+/// A listener failed. The fault is printed as its word.
+#[derive(Clone, Copy, Debug, PartialEq, Eq, Error)]
 pub struct ListenFault;
+
+impl ListenFault {
+    /// Returns `None`: the fault has no number, because no reply can report it.
+    pub fn number(&self) -> Option<u32>
+        ensures { result ≡ None }
+    {
+        None
+    }
+
+    /// Returns the word of the fault.
+    pub fn word(&self) -> &'static str
+        ensures { result.now ≡ read_fault_word }
+    {
+        "read_fault"
+    }
+}
+
+impl fmt::Display for ListenFault {
+    ghost use Rattle.std.specs.Prelude.{Some};
+    ghost use Rattle.lab_forms_streams.specs.Sending.{read_fault_word};
+
+    ghost output = { λ _. Some read_fault_word };
+
+    fn fmt<W: fmt::Write>(&self, f: &mut fmt::Formatter<W>) -> fmt::Result {
+        f.write_str(self.word())
+    }
+}
 
 /// Why serving stopped. A fault is printed as its word.
 #[derive(Clone, Copy, Debug, PartialEq, Eq, Error)]
@@ -141,13 +169,46 @@ impl From<io::Error> for ServerFault {
     }
 }
 
-/// Why a connection ended before its request was served whole.
-#[derive(Clone, Copy, Debug, PartialEq, Eq)]
+/// Why a connection ended before its request was served whole. A fault is printed as its word.
+#[derive(Clone, Copy, Debug, PartialEq, Eq, Error)]
 pub enum ConnectionFault {
     /// The request or the reply was not whole.
     Serving(ServeFault),
     /// Memory ran out for a buffer. Nothing was read or answered.
     Memory,
+}
+
+impl ConnectionFault {
+    /// Returns the number of the fault: 90 if memory ran out, `None` for the others.
+    pub fn number(&self) -> Option<u32>
+        ensures { result ≡ connection_fault_number self.now }
+    {
+        match self {
+            ConnectionFault::Serving(fault) => fault.number(),
+            ConnectionFault::Memory => OutOfMemory.number(),
+        }
+    }
+
+    /// Returns the word of the fault.
+    pub fn word(&self) -> &'static str
+        ensures { result.now ≡ connection_fault_word self.now }
+    {
+        match self {
+            ConnectionFault::Serving(fault) => fault.word(),
+            ConnectionFault::Memory => OutOfMemory.word(),
+        }
+    }
+}
+
+impl fmt::Display for ConnectionFault {
+    ghost use Rattle.std.specs.Prelude.{Some};
+    ghost use Rattle.lab_program_host.specs.Faults.{connection_fault_word};
+
+    ghost output = { λ fault. Some (connection_fault_word fault) };
+
+    fn fmt<W: fmt::Write>(&self, f: &mut fmt::Formatter<W>) -> fmt::Result {
+        f.write_str(self.word())
+    }
 }
 
 /// For a request that was not served whole.

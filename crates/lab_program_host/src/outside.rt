@@ -1,14 +1,44 @@
 //! What the outside world passes in when a connection is accepted: the moment, and the random
 //! words.
 
-ghost use Rattle.std.specs.Prelude.{ℕ, List, [], ◌∷◌, Option, None, IfOk};
+ghost use Rattle.std.specs.Prelude.{◌≡◌, ℕ, List, [], ◌∷◌, Option, None, IfOk};
+ghost use Rattle.lab_forms_streams.specs.Sending.{read_fault_word};
 ghost use Rattle.lab_program_host.specs.Sources.{GivesInOrder};
 
 use lab_forms_texts::{Moment, Tick};
+use std::fmt;
+use thiserror::Error;
 
-/// The clock or the source of random words failed.
-#[derive(Clone, Copy, Debug, PartialEq, Eq)]
+/// The clock or the source of random words failed. The fault is printed as its word.
+#[derive(Clone, Copy, Debug, PartialEq, Eq, Error)]
 pub struct DrawFault;
+
+impl DrawFault {
+    /// Returns `None`: the fault has no number, because no reply can report it.
+    pub fn number(&self) -> Option<u32>
+        ensures { result ≡ None }
+    {
+        None
+    }
+
+    /// Returns the word of the fault.
+    pub fn word(&self) -> &'static str
+        ensures { result.now ≡ read_fault_word }
+    {
+        "read_fault"
+    }
+}
+
+impl fmt::Display for DrawFault {
+    ghost use Rattle.std.specs.Prelude.{Some};
+    ghost use Rattle.lab_forms_streams.specs.Sending.{read_fault_word};
+
+    ghost output = { λ _. Some read_fault_word };
+
+    fn fmt<W: fmt::Write>(&self, f: &mut fmt::Formatter<W>) -> fmt::Result {
+        f.write_str(self.word())
+    }
+}
 
 /// A clock.
 pub trait Clock {

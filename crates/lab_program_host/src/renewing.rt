@@ -22,7 +22,8 @@ pub trait Renewable {
 
     /// Returns how many bytes the file has.
     fn length(&mut self) -> io::Result<usize>
-        ensures length { IfOk result (λ count. is_honest self.new → count ≡ length (seen self.old)) }
+        ensures length { IfOk result
+            (λ count. is_honest self.new → count ≡ length (seen self.old)) }
         ensures same { is_honest self.new → seen self.new ≡ seen self.old }
         ensures honest { is_honest self.new → is_honest self.old };
 
@@ -35,13 +36,16 @@ pub trait Renewable {
 
     /// Writes bytes at a place, all of them.
     fn write(&mut self, at: usize, bytes: &[u8]) -> io::Result<()>
-        ensures put { OnOk result (is_honest self.new → IsPutAt at bytes.now (seen self.old) (seen self.new)) }
-        ensures written { OnOk result (AreWritten at (length bytes.now) (written self.old) (written self.new)) }
+        ensures put { OnOk result
+            (is_honest self.new → IsPutAt at bytes.now (seen self.old) (seen self.new)) }
+        ensures written { OnOk result
+            (AreWritten at (length bytes.now) (written self.old) (written self.new)) }
         ensures honest { is_honest self.new → is_honest self.old };
 
     /// Synchronizes the file.
     fn sync(&mut self) -> io::Result<()>
-        ensures left { OnOk result (is_honest self.new → (left : List ℕ) → may_leave self.new left →
+        ensures left { OnOk result (is_honest self.new →
+            (left : List ℕ) → may_leave self.new left →
             IsLeft (written self.old) (seen self.old) left) }
         ensures same { is_honest self.new → seen self.new ≡ seen self.old }
         ensures honest { is_honest self.new → is_honest self.old };
@@ -50,7 +54,8 @@ pub trait Renewable {
 // Writes the bytes from a place on again, as they were read.
 fn renew_part<F: Renewable>(file: &mut F, at: usize, bytes: &mut [u8]) -> io::Result<()>
     ensures same { OnOk result (F.is_honest file.new → F.seen file.new ≡ F.seen file.old) }
-    ensures written { OnOk result (AreWritten at (length bytes.old) (F.written file.old) (F.written file.new)) }
+    ensures written { OnOk result
+        (AreWritten at (length bytes.old) (F.written file.old) (F.written file.new)) }
     ensures honest { F.is_honest file.new → F.is_honest file.old }
 {
     file.read(at, bytes)?;
@@ -67,8 +72,8 @@ const PART: usize = 16_384;
 /// A call failed: what a crash leaves is no better known than before.
 pub fn renew<F: Renewable>(file: &mut F) -> io::Result<()>
     ensures same { OnOk result (F.is_honest file.new → F.seen file.new ≡ F.seen file.old) }
-    ensures durable { OnOk result (F.is_honest file.new → (left : List ℕ) → F.may_leave file.new left →
-        left ≡ F.seen file.new) }
+    ensures durable { OnOk result (F.is_honest file.new →
+        (left : List ℕ) → F.may_leave file.new left → left ≡ F.seen file.new) }
 {
     let length = file.length()?;
     let mut part = [0u8; PART];

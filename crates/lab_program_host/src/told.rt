@@ -32,7 +32,8 @@ fn tell_after<E: Write>(errors: &mut E, sent: usize, text: &str) -> Result<(), W
 /// # Errors
 /// Standard error failed before the whole line was printed.
 pub fn tell<E: Write>(errors: &mut E, word: &str) -> Result<(), WriteFault>
-    ensures { IsLinePrinted (told_line word.now) result (E.contents errors.old) (E.contents errors.new) }
+    ensures { IsLinePrinted (told_line word.now) result
+        (E.contents errors.old) (E.contents errors.new) }
 {
     tell_after(errors, 0, BEFORE)?;
     tell_after(errors, BEFORE.len(), word)?;

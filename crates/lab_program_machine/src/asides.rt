@@ -1,11 +1,12 @@
 //! Copies an old file and its log, so that neither is written when they are read.
 
-ghost use Rattle.std.specs.Prelude.{IfOk};
+ghost use Rattle.std.specs.Prelude.{IfErr, IfOk};
 ghost use Rattle.sqlite.specs.Held.{state};
 ghost use Rattle.sqlite.specs.Files.{over_files};
 ghost use Rattle.sqlite_wal.specs.Files.{image_at};
 ghost use Rattle.lab_store_tables.specs.Ready.{IsAtRest};
 ghost use Rattle.lab_program_opening.specs.Files.{AreHeldIn, Finds};
+ghost use Rattle.lab_program_machine.specs.HostFaults.{IsOfHost};
 
 use crate::held::{connection_over, fault_of_holding};
 use crate::hosts::{HostVolume, Supposed};
@@ -49,7 +50,9 @@ fn is_forbidden(kind: ErrorKind) -> bool {
 
 impl<'a, S: Supposed> HostVolume<'a, S> {
     // Checks an old file before it is copied. Makes nothing if there is none.
-    fn look_at_old(&self, path: &str) -> Result<(), FileFault> {
+    fn look_at_old(&self, path: &str) -> Result<(), FileFault>
+        ensures { IfErr result IsOfHost }
+    {
         match fs::metadata(self.rt, path) {
             Ok(found) if found.is_file() && found.len() > 0 => self.look_inside(path),
             Ok(_) | Err(_) => Err(FileFault::NotADeskFile),
@@ -60,7 +63,9 @@ impl<'a, S: Supposed> HostVolume<'a, S> {
     // meanwhile. A file that this user may not write is held so that others may only read it. A
     // file is refused if it can't be held at all, or if there is a journal that must be played
     // back.
-    fn hold_old(&mut self, places: &Places) -> Result<(), FileFault> {
+    fn hold_old(&mut self, places: &Places) -> Result<(), FileFault>
+        ensures { IfErr result IsOfHost }
+    {
         let had_log = self.stat(places.log.as_str()).is_some();
         match self.held(places) {
             Ok(held) => {
@@ -76,7 +81,9 @@ impl<'a, S: Supposed> HostVolume<'a, S> {
     }
 
     // Holds a file that this user may only read: nobody may write it meanwhile.
-    fn hold_to_read(&mut self, places: &Places) -> Result<(), FileFault> {
+    fn hold_to_read(&mut self, places: &Places) -> Result<(), FileFault>
+        ensures { IfErr result IsOfHost }
+    {
         if self.stat(places.journal.as_str()).is_some() {
             return Err(FileFault::Storage);
         }
@@ -98,7 +105,9 @@ impl<'a, S: Supposed> HostVolume<'a, S> {
 
     // Copies a file to a path where nothing is, and returns which file was written. Only its owner
     // may read the copy.
-    fn copy_file(&self, from: &str, to: &str) -> Result<Stat, FileFault> {
+    fn copy_file(&self, from: &str, to: &str) -> Result<Stat, FileFault>
+        ensures { IfErr result IsOfHost }
+    {
         let mut options = OpenOptions::new();
         options.write(true).create_new(true).mode(0o600);
         let Ok(mut source) = File::open(self.rt, from) else {
@@ -118,7 +127,9 @@ impl<'a, S: Supposed> HostVolume<'a, S> {
     }
 
     // Copies a log, if there is one that may hold a commit, and its file.
-    fn copy_both(&self, from: &Places, to: &Places) -> Result<Stat, FileFault> {
+    fn copy_both(&self, from: &Places, to: &Places) -> Result<Stat, FileFault>
+        ensures { IfErr result IsOfHost }
+    {
         if self.has_commits(from.log.as_str()) {
             self.copy_file(from.log.as_str(), to.log.as_str())?;
         }
@@ -133,7 +144,9 @@ impl<'a, S: Supposed> HostVolume<'a, S> {
 
     // The place of the copy of an old file: beside the new file, under a name that no other move
     // has.
-    fn aside(&self, alloc: Global, new: &str, word: u64) -> Result<Places, FileFault> {
+    fn aside(&self, alloc: Global, new: &str, word: u64) -> Result<Places, FileFault>
+        ensures { IfErr result IsOfHost }
+    {
         match format!(in alloc; "{new}{ASIDE}{word}") {
             Ok(path) => places_of(self.rt, alloc, path.as_str()),
             Err(_) => Err(FileFault::Memory),
@@ -147,7 +160,9 @@ impl<'a, S: Supposed> HostVolume<'a, S> {
         from: &Places,
         new: &str,
         word: u64,
-    ) -> Result<Aside, FileFault> {
+    ) -> Result<Aside, FileFault>
+        ensures { IfErr result IsOfHost }
+    {
         self.hold_old(from)?;
         self.hold_new(alloc, new);
         let places = self.aside(alloc, new, word)?;
@@ -163,7 +178,9 @@ impl<'a, S: Supposed> HostVolume<'a, S> {
         path: &str,
         new: &str,
         word: u64,
-    ) -> Result<Aside, FileFault> {
+    ) -> Result<Aside, FileFault>
+        ensures { IfErr result IsOfHost }
+    {
         self.look_at_old(path)?;
         let from = places_of(self.rt, alloc, path)?;
         self.old = self.stat(from.file.as_str());
@@ -187,6 +204,7 @@ impl<'a, S: Supposed> HostVolume<'a, S> {
     ) -> Result<Connection<FileStore<FileFrom<S>>>, FileFault>
         ensures at_rest { IfOk result (λ conn. IsAtRest (state over_files conn)) }
         ensures found { IfOk result (Finds over_files (AreHeldIn (image_at S.Start))) }
+        ensures fault { IfErr result IsOfHost }
     {
         let held = match self.held(&copy.places) {
             Ok(held) => held,

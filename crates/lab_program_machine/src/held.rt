@@ -1,12 +1,13 @@
 //! A file and its log, held: nobody else has them open, and the disk has what they show.
 
-ghost use Rattle.std.specs.Prelude.{◌≡◌, IfOk, IsErrAnd, true, false};
+ghost use Rattle.std.specs.Prelude.{IfErr, IfOk, true, false};
 ghost use Rattle.sqlite_std_file.specs.File.{IsFresh};
 ghost use Rattle.sqlite.specs.Held.{state};
 ghost use Rattle.sqlite.specs.Files.{over_files};
 ghost use Rattle.sqlite_wal.specs.Files.{image_at};
 ghost use Rattle.lab_store_tables.specs.Ready.{IsAtRest};
 ghost use Rattle.lab_program_opening.specs.Files.{AreHeldIn, Finds};
+ghost use Rattle.lab_program_machine.specs.HostFaults.{IsOfHost};
 
 use crate::hosts::{HostVolume, Supposed};
 use crate::places::Places;
@@ -70,7 +71,9 @@ impl Renewable for HostBytes {
 }
 
 /// Returns the fault for files that can't be held.
-pub(crate) fn fault_of_holding(error: &OpenError) -> FileFault {
+pub(crate) fn fault_of_holding(error: &OpenError) -> FileFault
+    ensures { IsOfHost result }
+{
     match error {
         OpenError::OutOfMemory => FileFault::Memory,
         OpenError::Io(error) if error.kind() == ErrorKind::OutOfMemory => FileFault::Memory,
@@ -87,7 +90,9 @@ impl<'a, S: Supposed> HostVolume<'a, S> {
 
     // Writes the bytes of the file at a path again in place, up to a greatest number, and
     // synchronizes the file.
-    fn renew_bytes(&self, path: &str, most: usize) -> Result<(), FileFault> {
+    fn renew_bytes(&self, path: &str, most: usize) -> Result<(), FileFault>
+        ensures { IfErr result IsOfHost }
+    {
         let mut options = OpenOptions::new();
         options.read(true).write(true);
         let Ok(file) = options.open(self.rt, path) else {
@@ -103,7 +108,9 @@ impl<'a, S: Supposed> HostVolume<'a, S> {
     /// Puts on the disk what a file and its log show, while they are held: a failed sync may have
     /// left bytes that are read but that no disk has. For a file that was just made, only its first
     /// byte is written, since a commit is in the log until all of it is in the file.
-    pub(crate) fn renew_both(&self, places: &Places) -> Result<(), FileFault> {
+    pub(crate) fn renew_both(&self, places: &Places) -> Result<(), FileFault>
+        ensures { IfErr result IsOfHost }
+    {
         let file = places.file.as_str();
         if self
             .stat(file)
@@ -119,7 +126,9 @@ impl<'a, S: Supposed> HostVolume<'a, S> {
 }
 
 // The options with a number for the salts of a log, which nobody can predict.
-fn options(rt: &HostRuntime) -> Result<Options, FileFault> {
+fn options(rt: &HostRuntime) -> Result<Options, FileFault>
+    ensures { IfErr result IsOfHost }
+{
     match RandomState::new(rt) {
         Ok(state) => Ok(Options::new(state.hash_one(&0u8))),
         Err(_) => Err(FileFault::Storage),
@@ -135,6 +144,7 @@ pub(crate) fn connection_over<S: Supposed>(
 ) -> Result<Connection<FileStore<FileFrom<S>>>, (FileFault, Files<FileFrom<S>>)>
     ensures at_rest { IfOk result (λ conn. IsAtRest (state over_files conn)) }
     ensures found { IfOk result (Finds over_files (AreHeldIn (image_at S.Start))) }
+    ensures fault { IfErr result (λ fault. IsOfHost fault.0) }
 {
     let Held { files } = held;
     let options = match options(rt) {

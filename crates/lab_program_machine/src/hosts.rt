@@ -1,5 +1,8 @@
 //! The files of this machine.
 
+ghost use Rattle.std.specs.Prelude.{◌≡◌, IfErr, IsSome, IsTrue};
+ghost use Rattle.lab_program_machine.specs.HostFaults.{HostRefuses, IsOfHost};
+
 use crate::held::{Held, connection_over, fault_of_holding};
 use crate::machine::print_records;
 use crate::places::{Places, places_of};
@@ -100,7 +103,9 @@ impl<'a, S: Supposed> HostVolume<'a, S> {
     // something that isn't a regular file could wait for ever; a file that isn't a SQLite database
     // would be written over; and a log without its file holds what was committed last, which a new
     // file would cut off.
-    fn look(&self, places: &Places) -> Result<(), FileFault> {
+    fn look(&self, places: &Places) -> Result<(), FileFault>
+        ensures { IfErr result IsOfHost }
+    {
         let path = places.file.as_str();
         let length = match fs::metadata(self.rt, path) {
             Ok(found) if !found.is_file() => {
@@ -118,7 +123,9 @@ impl<'a, S: Supposed> HostVolume<'a, S> {
 
     // Checks the first bytes of a file. The store checks the rest, and doesn't change what isn't
     // its own.
-    pub(crate) fn look_inside(&self, path: &str) -> Result<(), FileFault> {
+    pub(crate) fn look_inside(&self, path: &str) -> Result<(), FileFault>
+        ensures { IfErr result IsOfHost }
+    {
         if self.is_unfinished(path)? {
             return Ok(());
         }
@@ -138,7 +145,9 @@ impl<'a, S: Supposed> HostVolume<'a, S> {
 
     // Whether a file begins with a byte of 0, as a file does whose making was cut off: the first
     // byte of a database is written last, and is 0 until then.
-    fn is_unfinished(&self, path: &str) -> Result<bool, FileFault> {
+    fn is_unfinished(&self, path: &str) -> Result<bool, FileFault>
+        ensures { IfErr result IsOfHost }
+    {
         let mut first = [1u8];
         let Ok(mut file) = File::open(self.rt, path) else {
             return Ok(false);
@@ -153,7 +162,9 @@ impl<'a, S: Supposed> HostVolume<'a, S> {
     // Prepares a path for a new file. The file and its log are made if they are missing, and only
     // their owner may read them. What the system refuses here, it refuses again when the file is
     // opened.
-    fn prepare(&self, path: &str, log: &str) -> Result<(), FileFault> {
+    fn prepare(&self, path: &str, log: &str) -> Result<(), FileFault>
+        ensures { IfErr result IsOfHost }
+    {
         if self.has_commits(log) {
             return Err(FileFault::Storage);
         }
@@ -174,7 +185,9 @@ impl<'a, S: Supposed> HostVolume<'a, S> {
     }
 
     // Returns random words, which the log of a file needs.
-    pub(crate) fn draw(&self) -> Result<u64, OpenFault> {
+    pub(crate) fn draw(&self) -> Result<u64, OpenFault>
+        ensures { IfErr result (λ fault. fault ≡ OpenFault.Drawing) }
+    {
         match SysRng::new(self.rt).try_next_u64() {
             Ok(word) => Ok(word),
             Err(_) => Err(OpenFault::Drawing),
@@ -183,7 +196,9 @@ impl<'a, S: Supposed> HostVolume<'a, S> {
 
     // Notes the log that was made when this file was held: there was none before, and the log is
     // empty.
-    fn note_log(&mut self, alloc: Global, log: &str, had_log: bool) -> Result<(), FileFault> {
+    fn note_log(&mut self, alloc: Global, log: &str, had_log: bool) -> Result<(), FileFault>
+        ensures { IfErr result IsOfHost }
+    {
         self.own_log = None;
         let is_new = !had_log && fs::metadata(self.rt, log).is_ok_and(|found| found.len() == 0);
         if is_new {
@@ -209,7 +224,9 @@ impl<'a, S: Supposed> HostVolume<'a, S> {
         alloc: Global,
         places: &Places,
         had_log: bool,
-    ) -> Result<Held<S>, FileFault> {
+    ) -> Result<Held<S>, FileFault>
+        ensures { IfErr result IsOfHost }
+    {
         let held = match self.held(places) {
             Ok(held) => held,
             Err(error) => return Err(fault_of_holding(&error)),
@@ -229,7 +246,9 @@ impl<'a, S: Supposed> HostVolume<'a, S> {
     }
 
     // Checks a file, and holds it. What is refused is unchanged.
-    fn looked_at(&mut self, alloc: Global, places: &Places) -> Result<Held<S>, FileFault> {
+    fn looked_at(&mut self, alloc: Global, places: &Places) -> Result<Held<S>, FileFault>
+        ensures { IfErr result IsOfHost }
+    {
         let had_log = self.stat(places.log.as_str()).is_some();
         self.look(places)?;
         self.held_anew(alloc, places, had_log)
@@ -246,7 +265,10 @@ impl<'a, S: Supposed> HostVolume<'a, S> {
     }
 
     // The file to be connected to, held. The volume notes which file it is.
-    fn file_to_connect(&mut self, alloc: Global, path: &str) -> Result<Held<S>, FileFault> {
+    fn file_to_connect(&mut self, alloc: Global, path: &str) -> Result<Held<S>, FileFault>
+        ensures { IfErr result (λ fault.
+            HostRefuses (IsSome self.entry.now.old) (OpenFault.File fault)) }
+    {
         let places = places_of(self.rt, alloc, path)?;
         if self.is_old(&places) {
             return Err(FileFault::NotEmpty);
@@ -295,7 +317,9 @@ impl<'a, S: Supposed> HostVolume<'a, S> {
     }
 
     // Whether the old file of a move lies there.
-    fn is_old(&self, places: &Places) -> bool {
+    fn is_old(&self, places: &Places) -> bool
+        ensures { IsTrue result → IsSome self.now.old }
+    {
         match (self.old, self.stat(places.file.as_str())) {
             (Some(old), Some(found)) => old.is_same(&found),
             _ => false,
@@ -304,12 +328,18 @@ impl<'a, S: Supposed> HostVolume<'a, S> {
 }
 
 impl<'a, S: Supposed> Volume for HostVolume<'a, S> {
+    ghost use Rattle.std.specs.Prelude.{IsSome};
     ghost use Rattle.sqlite_wal.specs.Files.{image_at};
+    ghost use Rattle.lab_program_machine.specs.HostFaults.{HostRefuses};
     ghost use Rattle.lab_program_opening.specs.Files.{AreHeldIn};
 
     type Disk = FileStore<FileFrom<S>>;
 
-    ghost holds = { λ volume path. AreHeldIn (image_at S.Start) };
+    ghost file = { λ volume path. record {
+      holds = AreHeldIn (image_at S.Start);
+      is_cut = IsSome volume.connected;
+      refuses = HostRefuses (IsSome volume.old);
+    } };
 
     fn has(&self, path: &str) -> Result<bool, FileFault> {
         match fs::metadata(self.rt, path) {

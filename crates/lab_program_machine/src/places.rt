@@ -1,5 +1,8 @@
 //! The places of a file, its log and its journal, whatever links lead there.
 
+ghost use Rattle.std.specs.Prelude.{IfErr};
+ghost use Rattle.lab_program_machine.specs.HostFaults.{IsOfHost};
+
 use lab_store_files::FileFault;
 use std::alloc::{AllocError, Global};
 use std::fs;
@@ -23,7 +26,9 @@ impl Places {
     }
 
     /// Returns the paths for the file at a path on which no link lies.
-    pub(crate) fn of(alloc: Global, path: &str) -> Result<Places, FileFault> {
+    pub(crate) fn of(alloc: Global, path: &str) -> Result<Places, FileFault>
+        ensures { IfErr result IsOfHost }
+    {
         match Places::at(alloc, path) {
             Ok(places) => Ok(places),
             Err(_) => Err(FileFault::Memory),
@@ -43,7 +48,9 @@ fn path_behind(alloc: Global, path: &str, ending: &str) -> Result<String, AllocE
 ///
 /// # Errors
 /// A link on the path leads nowhere, its folder doesn't exist or can't be read, or memory ran out.
-pub(crate) fn places_of(rt: &HostRuntime, alloc: Global, path: &str) -> Result<Places, FileFault> {
+pub(crate) fn places_of(rt: &HostRuntime, alloc: Global, path: &str) -> Result<Places, FileFault>
+    ensures { IfErr result IsOfHost }
+{
     match fs::canonicalize(rt, path) {
         Ok(real) => Places::of(alloc, real.as_str()),
         Err(error) => match error.kind() {
@@ -55,7 +62,9 @@ pub(crate) fn places_of(rt: &HostRuntime, alloc: Global, path: &str) -> Result<P
 }
 
 // Where a file would be made at a path without one.
-fn places_of_none(rt: &HostRuntime, alloc: Global, path: &str) -> Result<Places, FileFault> {
+fn places_of_none(rt: &HostRuntime, alloc: Global, path: &str) -> Result<Places, FileFault>
+    ensures { IfErr result IsOfHost }
+{
     if fs::symlink_metadata(rt, path).is_ok() {
         return Err(FileFault::Storage);
     }

@@ -8,6 +8,7 @@ use Rattle.sqlite_trees.specs.declared.store.Store.{Ghosts}
 use Rattle.sqlite.specs.Held.{Held, state}
 use Rattle.sqlite.specs.State.{HasCleanDisk}
 use Rattle.lab_store_tables.specs.Ready.{tables_of}
+use Rattle.lab_store_files.specs.declared.faults.FileFault.{FileFault}
 use Rattle.lab_forms_texts.specs.Faults.{memory_entry}
 use Rattle.lab_forms_streams.specs.declared.sending.WriteFault.{WriteFault as Untold}
 use Rattle.lab_forms_streams.specs.Sending.{write_fault_word}
@@ -23,7 +24,8 @@ use Rattle.lab_program_host.specs.TaskEnds.{TaskEnd}
 use Rattle.lab_program_opening.specs.declared.faults.OpenFault.{OpenFault}
 use Rattle.lab_program_opening.specs.declared.faults.OpenFault.TheVariants.{File as Unopened}
 use Rattle.lab_program_opening.specs.Faults.{Declines, TellsWord}
-use Rattle.lab_program_opening.specs.Files.{Finds, LeavesShown}
+use Rattle.lab_program_opening.specs.Files.{Finds, IsBlankAt, IsFilled, LeavesShown}
+use Rattle.lab_program_opening.specs.Volumes.{FileAt, IsOfFile, IsRefusedBy}
 
 -- ---- what was printed and told
 
@@ -67,6 +69,14 @@ module _ (end : TaskEnd) where
       × Declines fault end.status end.told_before end.told_after
 
 -- ---- what was made
+
+-- what the task `migrate` is given
+pub record MoveTask (Volume : Type 0) : Type 0 where
+  -- the volume, as it was before
+  pub volume : Volume
+  -- the paths of the old file and of the new one
+  pub old : List ℕ
+  pub new : List ℕ
 
 module _ {S : Type 0} (disk : Ghosts S) where
   -- an old file that held this was found, and asked which schema it has: an older one, as it owes;
@@ -115,14 +125,34 @@ module _ {S : Type 0} (disk : Ghosts S) where
       (moves : Moves old new ending) × AnswersRightly old new ending moves
       × (finished ≡ Some moves.made)
 
-  module _ (IsHeld : Trees → Type 0) (IsNew : Held S → Type 0) where
-    -- both files were opened
+  -- an old file that held this was found, and asked which schema it has, and owes this refusal
+  pub record RefusesOld (IsHeld : Trees → Type 0) (fault : FileFault) : Type 0 where
+    pub found : Held S
+    pub conn : Held S
+    pub finds : Finds disk IsHeld found
+    pub passes : PassesOver (state disk found) (state disk conn)
+    pub owed : HasCleanDisk (state disk conn) → AnswersOldOwed (state disk found).now (Err fault)
+
+  module _ {Volume : Type 0} (files : Volume → List ℕ → FileAt) (closed : Held S → Type 0)
+      (task : MoveTask Volume) where
+    -- both files were opened, and the new one was closed as it was left
     abbrev pub MovesBetween : Result ℕ MoveFault → Type 0
-    MovesBetween result = (old : Held S) × (new : Held S) × IsAsked IsHeld old × IsNew new
+    MovesBetween result = (old : Held S) × (new : Held S)
+        × IsAsked (files task.volume task.old).holds old × IsBlankAt disk files task.new new
         × (moves : Moves old new result) × AnswersRightly old new result moves
+        × closed moves.made
+
+    -- why no move was begun, the old file first: it wasn't opened; or it was, and owes the refusal;
+    -- or it is of an older schema, and the new one wasn't opened, or isn't empty
+    abbrev pub IsUnbegun : OpenFault → Type 0
+    IsUnbegun fault = IsRefusedBy (files task.volume task.old) fault
+        ⊎ IsOfFile (RefusesOld (files task.volume task.old).holds) fault
+        ⊎ ((old : Held S) × IsAsked (files task.volume task.old).holds old
+        × ((volume : Volume) × IsFilled disk (files volume task.new) fault))
 
     -- the task `migrate`, by its status, what was printed and what was told
     pub record IsMigration (end : TaskEnd) : Type 0 where
       pub ending : Result (Result ℕ MoveFault) OpenFault
       pub moves : IfOk ending MovesBetween
+      pub cause : IfErr ending IsUnbegun
       pub told : TellsEnd end ending

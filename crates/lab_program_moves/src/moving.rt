@@ -1,12 +1,13 @@
 //! `labdesk migrate`: the laboratories of an old file come into a new one.
 
-ghost use Rattle.std.specs.Prelude.{IfOk};
+ghost use Rattle.std.specs.Prelude.{◌⊎◌, IfErr, IfOk};
 ghost use Rattle.sqlite.specs.Held.{state};
 ghost use Rattle.lab_store_files.specs.NewFiles.{IsBlank};
 ghost use Rattle.lab_store_tables.specs.Ready.{IsAtRest};
-ghost use Rattle.lab_program_opening.specs.Files.{IsBlankAt};
+ghost use Rattle.lab_program_opening.specs.Ends.{WasClosed};
+ghost use Rattle.lab_program_opening.specs.Volumes.{IsOfFile, IsRefusedBy};
 ghost use Rattle.lab_program_opening.specs.Faults.{TellsWord};
-ghost use Rattle.lab_program_moves.specs.Moves.{IsAsked, IsMigration, MovesTo, Prints, TellsFault, TellsUnsound, migrated_line};
+ghost use Rattle.lab_program_moves.specs.Moves.{IsAsked, IsMigration, MovesTo, Prints, RefusesOld, TellsFault, TellsUnsound, migrated_line};
 
 use lab_forms_streams::{WriteFault, write_whole};
 use lab_forms_texts::{LabCode, OutOfMemory};
@@ -42,7 +43,10 @@ fn old_file<H: Volume>(
     path: &str,
     new: &str,
 ) -> Result<OldFile<H::Disk>, OpenFault>
-    ensures { IfOk result (λ file. IsAsked H.Disk.Store (H.holds volume.old path.now) file.conn) }
+    ensures asked { IfOk result (λ file.
+        IsAsked H.Disk.Store (H.file volume.old path.now).holds file.conn) }
+    ensures refused { IfErr result (λ fault. IsRefusedBy (H.file volume.old path.now) fault
+        ⊎ IsOfFile (RefusesOld H.Disk.Store (H.file volume.old path.now).holds) fault) }
 {
     let conn = open_old(alloc, volume, path, new)?;
     let mut file = OldFile { conn };
@@ -169,8 +173,9 @@ pub fn migrate<N, H: Volume, C, X, P, W: Write, E: Write>(
 ) -> Result<u8, WriteFault>
 where
     Connection<H::Disk>: Closable,
-    ensures { IsMigration H.Disk.Store (H.holds host.old.volume old.now)
-        (IsBlankAt H.Disk.Store H.holds new.now) (record {
+    ensures { IsMigration H.Disk.Store H.file
+        (WasClosed ⟦<Connection<H::Disk> as Closable>⟧.closes)
+        (record { volume = host.old.volume; old = old.now; new = new.now }) (record {
           before = W.contents output.old;
           after = W.contents output.new;
           told_before = E.contents errors.old;

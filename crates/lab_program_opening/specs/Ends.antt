@@ -1,6 +1,6 @@
 -- What the close of a connection over files leaves of them (SQLite, 'Write-Ahead Logging', 2.1,
 -- 'Checkpointing').
-use Rattle.std.specs.Prelude.{Result, Ok, Err}
+use Rattle.std.specs.Prelude.{◌⊎◌, ℕ, List, Result, Ok, Err}
 use Rattle.sqlite_disk.specs.declared.Disk.{Ghosts as DiskOf}
 use Rattle.sqlite_disk.specs.declared.Files.{Files}
 use Rattle.sqlite_wal.specs.Reads.{AreClean}
@@ -11,6 +11,7 @@ use Rattle.sqlite.specs.declared.error.Error.{Error}
 use Rattle.sqlite.specs.Closing.{IsCopied}
 use Rattle.sqlite.specs.Files.{FailsToClose, IsClosed}
 use Rattle.sqlite.specs.Held.{Held}
+use Rattle.lab_program_opening.specs.Volumes.{FileAt}
 
 module _ {D : Type 0} {g : DiskOf D} where
   -- the log and the database file, closed: where the disk returned what was written, the last
@@ -30,3 +31,15 @@ module _ {D : Type 0} {g : DiskOf D} where
   abbrev pub Closes : Held (FileStore D g) → Result (Unit {0}) Error → Type 0
   Closes conn (Ok _) = IsLeftWhole conn
   Closes conn (Err fault) = IsLeftInBoth conn fault
+
+-- ---- of any connection
+
+module _ {S : Type 0} (closes : S → Result (Unit {0}) Error → Type 0) where
+  -- it was closed, and this is what its close came to
+  abbrev pub WasClosed : S → Type 0
+  WasClosed conn = (closing : Result (Unit {0}) Error) × closes conn closing
+
+  -- or it was let go, since others had cut its file
+  abbrev pub WasGivenUp : {Volume : Type 0} → (Volume → List ℕ → FileAt) → S → Type 0
+  WasGivenUp {Volume} file conn = WasClosed conn
+      ⊎ ((volume : Volume) × (path : List ℕ) × (file volume path).is_cut)

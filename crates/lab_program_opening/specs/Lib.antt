@@ -1,3 +1,4 @@
 pub mod Ends
 pub mod Faults
 pub mod Files
+pub mod Volumes

@@ -2,6 +2,7 @@
 
 ghost use Rattle.std.specs.Prelude.{◌≡◌, IfSome, Result};
 ghost use Rattle.sqlite.specs.declared.error.Error.{Error as CloseError};
+ghost use Rattle.lab_program_opening.specs.Ends.{WasClosed};
 
 use sqlite::{Alter, Connection, Error, FileFrom, FileStore, MemStore, Start};
 use std::marker::Model;
@@ -104,8 +105,8 @@ impl<T, S: Alter> Ended<T, S> {
     where
         Connection<S>: Closable,
         ensures ending { result ≡ self.ending }
-        ensures closed { IfSome self.finished (λ conn. (closing : Result (Unit {0}) CloseError)
-            × ⟦<Connection<S> as Closable>⟧.closes conn closing) }
+        ensures closed { IfSome self.finished
+            (WasClosed ⟦<Connection<S> as Closable>⟧.closes) }
     {
         let Ended { ending, finished } = self;
         match finished {

@@ -1,10 +1,12 @@
 //! Opens a file of laboratories, or makes one if there is none.
 
-ghost use Rattle.std.specs.Prelude.{◌≡◌, IfOk, IsTrue};
+ghost use Rattle.std.specs.Prelude.{◌≡◌, ◌↔◌, IfErr, IfOk, IsTrue};
 ghost use Rattle.sqlite.specs.Held.{state};
 ghost use Rattle.lab_store_tables.specs.Ready.{IsAtRest};
 ghost use Rattle.lab_store_files.specs.NewFiles.{IsBlank, no_schema};
-ghost use Rattle.lab_program_opening.specs.Files.{Finds, IsBlankFile, IsNewFrom, IsOpened, IsOurs, IsOursFrom};
+ghost use Rattle.lab_program_opening.specs.Ends.{WasClosed};
+ghost use Rattle.lab_program_opening.specs.Files.{FailsToMake, Finds, IsBlankFile, IsFilled, IsNewFrom, IsOpened, IsOurs, IsOursFrom, IsUnmade, IsUnopened, RefusesFrom};
+ghost use Rattle.lab_program_opening.specs.Volumes.{IsOfFile, IsRefusedBy};
 
 use crate::ends::Closable;
 use crate::faults::OpenFault;
@@ -27,7 +29,10 @@ pub fn open_file<H: Volume>(
 where
     Connection<H::Disk>: Closable,
     ensures at_rest { IfOk result (λ conn. IsAtRest (state H.Disk.Store conn)) }
-    ensures ours { IfOk result (IsOurs H.Disk.Store (H.holds volume.old path.now)) }
+    ensures ours { IfOk result (IsOurs H.Disk.Store (H.file volume.old path.now).holds) }
+    ensures unopened { IfErr result (IsUnopened H.Disk.Store
+        (WasClosed ⟦<Connection<H::Disk> as Closable>⟧.closes)
+        (H.file volume.old path.now)) }
 {
     if !volume.has(path)? {
         return Err(OpenFault::File(FileFault::NotADeskFile));
@@ -47,6 +52,8 @@ where
     requires { IsAtRest (state H.Disk.Store conn) }
     ensures at_rest { IfOk result (λ conn. IsAtRest (state H.Disk.Store conn)) }
     ensures ours { IfOk result (IsOursFrom H.Disk.Store conn) }
+    ensures refused { IfErr result (IsOfFile (RefusesFrom H.Disk.Store
+        (WasClosed ⟦<Connection<H::Disk> as Closable>⟧.closes) conn)) }
 {
     let mut conn = conn;
     match open(&mut conn) {
@@ -66,6 +73,8 @@ where
     requires { IsAtRest (state S.Store conn) }
     ensures at_rest { IfOk result (λ conn. IsAtRest (state S.Store conn)) }
     ensures made { IfOk result (IsNewFrom S.Store conn) }
+    ensures unmade { IfErr result (IsOfFile (FailsToMake S.Store
+        (WasClosed ⟦<Connection<S> as Closable>⟧.closes) conn)) }
 {
     match create(&mut conn) {
         Ok(()) => Ok(conn),
@@ -90,7 +99,10 @@ pub fn make_file<H: Volume>(
 where
     Connection<H::Disk>: Closable,
     ensures at_rest { IfOk result (λ conn. IsAtRest (state H.Disk.Store conn)) }
-    ensures opened { IfOk result (IsOpened H.Disk.Store (H.holds volume.old path.now)) }
+    ensures opened { IfOk result (IsOpened H.Disk.Store (H.file volume.old path.now).holds) }
+    ensures unmade { IfErr result (IsUnmade H.Disk.Store
+        (WasClosed ⟦<Connection<H::Disk> as Closable>⟧.closes)
+        (H.file volume.old path.now)) }
 {
     let conn = volume.connect(alloc, path)?;
     if conn.schema().tables.is_empty() {
@@ -114,7 +126,8 @@ pub fn open_old<H: Volume>(
     new: &str,
 ) -> Result<Connection<H::Disk>, OpenFault>
     ensures at_rest { IfOk result (λ conn. IsAtRest (state H.Disk.Store conn)) }
-    ensures found { IfOk result (Finds H.Disk.Store (H.holds volume.old path.now)) }
+    ensures found { IfOk result (Finds H.Disk.Store (H.file volume.old path.now).holds) }
+    ensures fault { IfErr result (IsRefusedBy (H.file volume.old path.now)) }
 {
     if volume.has(path)? {
         volume.connect_old(alloc, path, new)
@@ -125,7 +138,7 @@ pub fn open_old<H: Volume>(
 
 // Whether a file with this schema is empty.
 fn is_blank(schema: &Schema) -> bool
-    ensures { IsTrue result → schema.now ≡ no_schema }
+    ensures { IsTrue result ↔ (schema.now ≡ no_schema) }
 {
     schema.tables.is_empty() && schema.indexes.is_empty() && schema.views.is_empty()
 }
@@ -136,7 +149,10 @@ fn blank<H: Volume>(
     volume: &mut H,
     conn: Connection<H::Disk>,
 ) -> Result<Connection<H::Disk>, OpenFault>
-    ensures { IfOk result (λ blank. (blank ≡ conn) × IsBlank (state H.Disk.Store conn).now) }
+    ensures blank { IfOk result (λ blank.
+        (blank ≡ conn) × IsBlank (state H.Disk.Store conn).now) }
+    ensures filled { IfErr result (λ fault.
+        (¬ IsBlank (state H.Disk.Store conn).now) × (fault ≡ OpenFault.File FileFault.NotEmpty)) }
 {
     if is_blank(conn.schema()) {
         Ok(conn)
@@ -157,7 +173,8 @@ pub fn open_new<H: Volume>(
     path: &str,
 ) -> Result<Connection<H::Disk>, OpenFault>
     ensures at_rest { IfOk result (λ conn. IsAtRest (state H.Disk.Store conn)) }
-    ensures blank { IfOk result (IsBlankFile H.Disk.Store (H.holds volume.old path.now)) }
+    ensures blank { IfOk result (IsBlankFile H.Disk.Store (H.file volume.old path.now).holds) }
+    ensures filled { IfErr result (IsFilled H.Disk.Store (H.file volume.old path.now)) }
 {
     let conn = volume.connect(alloc, path)?;
     blank(volume, conn)

@@ -1,11 +1,11 @@
 //! The place of the files of laboratories, and the advice for a person when a task over a file
 //! stops.
 
-ghost use Rattle.std.specs.Prelude.{IfOk, ℕ, List};
-ghost use Rattle.sqlite_trees.specs.Tree.{Trees};
+ghost use Rattle.std.specs.Prelude.{◌≡◌, false, IfErr, IfOk, IsTrue, Ok, ℕ, List};
 ghost use Rattle.sqlite.specs.Held.{state};
 ghost use Rattle.lab_store_tables.specs.Ready.{IsAtRest};
 ghost use Rattle.lab_program_opening.specs.Files.{Finds};
+ghost use Rattle.lab_program_opening.specs.Volumes.{FileAt, IsRefusedBy};
 
 use crate::additions::Additions;
 use crate::faults::OpenFault;
@@ -20,14 +20,18 @@ pub trait Volume {
     /// What keeps a file.
     type Disk: Alter + Drop;
 
-    /// What the file at a path holds.
-    ghost holds: { Self → List ℕ → Trees → Type 0 };
+    /// What is known of the file at a path.
+    ghost file: { Self → List ℕ → FileAt };
 
     /// Returns whether a file exists at the path that isn't empty, and whose making wasn't cut off.
     ///
     /// # Errors
     /// The file couldn't be read.
-    fn has(&self, path: &str) -> Result<bool, FileFault>;
+    fn has(&self, path: &str) -> Result<bool, FileFault>
+        ensures none { result ≡ Ok false →
+            IsRefusedBy (file self.now path.now) (OpenFault.File FileFault.NotADeskFile) }
+        ensures fault { IfErr result (λ fault.
+            IsRefusedBy (file self.now path.now) (OpenFault.File fault)) };
 
     /// Returns a connection to the file at the path, which shows what the file held. Makes the
     /// file, without a table, if there is none or an empty one. A refused file is unchanged.
@@ -37,7 +41,8 @@ pub trait Volume {
     /// failed, or the store failed, or a log exists without its file, or memory ran out.
     fn connect(&mut self, alloc: Global, path: &str) -> Result<Connection<Self::Disk>, OpenFault>
         ensures at_rest { IfOk result (λ conn. IsAtRest (state Self.Disk.Store conn)) }
-        ensures found { IfOk result (Finds Self.Disk.Store (holds self.old path.now)) };
+        ensures found { IfOk result (Finds Self.Disk.Store (file self.old path.now).holds) }
+        ensures fault { IfErr result (IsRefusedBy (file self.old path.now)) };
 
     /// Returns a connection to the old file at the path, which shows what the file and its log
     /// held. A copy of both is opened. This copy lies beside the path of a new file until it is
@@ -55,7 +60,8 @@ pub trait Volume {
         new: &str,
     ) -> Result<Connection<Self::Disk>, OpenFault>
         ensures at_rest { IfOk result (λ conn. IsAtRest (state Self.Disk.Store conn)) }
-        ensures found { IfOk result (Finds Self.Disk.Store (holds self.old path.now)) };
+        ensures found { IfOk result (Finds Self.Disk.Store (file self.old path.now).holds) }
+        ensures fault { IfErr result (IsRefusedBy (file self.old path.now)) };
 
     /// Releases the new file that is held for a move which isn't made. Removes the file if it was
     /// made for the move.
@@ -67,7 +73,8 @@ pub trait Volume {
 
     /// Returns whether the file of the last connection, or its log, still lies at its path and is
     /// shorter.
-    fn is_cut(&self, path: &str) -> bool;
+    fn is_cut(&self, path: &str) -> bool
+        ensures { IsTrue result → (file self.now path.now).is_cut };
 
     /// Notes that the connection was closed, which may make the log shorter.
     fn forget(&mut self);

@@ -9,6 +9,7 @@ use Rattle.lab_program_host.specs.declared.faults.ServerFault.{ServerFault}
 use Rattle.lab_program_host.specs.declared.faults.ServerFault.TheVariants.{Write}
 use Rattle.lab_forms_texts.specs.declared.tick.Tick.{Tick}
 use Rattle.lab_records_kept.specs.Limits.{IsWithin}
+use Rattle.lab_records_keeper.specs.declared.keeper.Keeper.{Ghosts}
 use Rattle.lab_records_keeper.specs.Worlds.{Meaning, SameMeaning, World}
 use Rattle.lab_records_laws.specs.Runs.{IsReleasing}
 use Rattle.lab_wire.specs.declared.commands.Asked.{Asked}
@@ -21,7 +22,7 @@ use Rattle.lab_desk_events.proofs.Keeping.{follows_itself}
 use Rattle.lab_desk.specs.Desk.{Served}
 use Rattle.lab_program_serve.specs.Runs.{IsServedRun}
 use Rattle.lab_program_serve.specs.Texts.{listening_line, IsPrinted}
-use Rattle.lab_program_serve.specs.Times.{EndWith, Time}
+use Rattle.lab_program_serve.specs.Times.{EndWith, IsGivenUp, Time}
 use Rattle.lab_program_serve.specs.Visits.{AreCounted, Visit, is_unavailable}
 
 port : decimal 8080 ≡ codes "8080"
@@ -48,16 +49,28 @@ pub known_unavailable : (is_unavailable (codes "HTTP/1.1 503 Service Unavailable
     × (is_unavailable (codes "HTTP/1.1 200 OK\r\n") ≡ false) × (is_unavailable [] ≡ false)
 known_unavailable = (refl, refl, refl)
 
--- the keeper that is left is the one of the last time
+-- the keeper that is left is the one of the last time, and the one of any other time is closed
 abbrev time : ℕ → Time ℕ
 time last = record { first = 0; reply = []; visits = []; last = last; refused = [] }
 
 abbrev left : ℕ → Option (Served ℕ)
 left keeper = Some (record { keeper = keeper; reply = [] })
 
-pub known_end : EndWith (time 1 ∷ time 2 ∷ []) (left 2)
-    × (EndWith (time 1 ∷ time 2 ∷ []) (left 1) → ⊥) × EndWith (time 1 ∷ []) None
-known_end = ((refl, refl), λ ends. true≢false (ap (λ (number : ℕ). number == 2) ends.1), tt)
+pub known_end : (keeper : Ghosts ℕ) (closed : ℕ → Type 0) → closed 1 →
+    EndWith keeper closed (time 1 ∷ time 2 ∷ []) (left 2)
+    × (EndWith keeper closed (time 1 ∷ time 2 ∷ []) (left 1) → ⊥)
+    × EndWith keeper closed (time 1 ∷ []) None
+    × (EndWith keeper (λ _. ⊥) (time 1 ∷ time 2 ∷ []) (left 2) → ⊥)
+    × (EndWith keeper (λ _. ⊥) (time 1 ∷ []) None → ⊥)
+known_end keeper closed shut =
+    let up : IsGivenUp keeper closed 1 =
+    record { given_up = 1; asked = inl refl; closed_so = shut } in (
+      (up, (refl, refl)),
+      λ ends. true≢false (ap (λ (number : ℕ). number == 2) ends.1.1),
+      up,
+      λ ends. ends.0.closed_so,
+      λ ends. ends.closed_so,
+    )
 
 -- ---- a service that a fault ended
 

@@ -11,12 +11,13 @@ use Rattle.lab_program_serve.specs.Times.{ServesTimes}
 use Rattle.lab_program_serve.specs.Visits.{listened}
 
 -- from a keeper that was opened on so many connections were served, at the moments and with the
--- words that were drawn, unless a fault came, which was told; and this keeper was left
-pub record IsServing {S : Type 0} (keeper : Ghosts S) (opened : S → Type 0)
+-- words that were drawn, unless a fault came, which was told; each keeper that was given up was
+-- closed, and this one was left
+pub record IsServing {S : Type 0} (keeper : Ghosts S) (opened closed : S → Type 0)
     (first left : Option (Served S)) (drawing : Drawing) (count : ℕ) (end : TaskEnd) :
     Type 0 where
   pub ending : Result (Unit {0}) ServerFault
   pub announced : IsAnnounced ending end.before end.after
   pub served : IfSome first (λ desk. opened desk.keeper →
-      ServesTimes keeper opened desk.keeper left ending count (listened drawing))
+      ServesTimes keeper opened closed desk.keeper left ending count (listened drawing))
   pub told : PrintsFault server_fault_word ending end.status end.told_before end.told_after

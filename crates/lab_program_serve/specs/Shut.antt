@@ -22,4 +22,7 @@ shut_keeper = record {
   rests = λ _ _. Unit {0};
   moves = λ _ _ _ _. Unit {0};
   places = λ _ _ _. Unit {0};
+  refuses_load = λ _ _ _ _. Unit {0};
+  refuses_changes = λ _ _ _ _. Unit {0};
+  refuses_founding = λ _ _ _. Unit {0};
 }

@@ -1,10 +1,13 @@
 -- The times of a server. Over a keeper that was opened it serves one connection after the other.
--- Once that keeper no longer answers, it is given up, and before the next request one is opened
--- anew; where none could be opened, that request is refused, and the next one tries again.
-use Rattle.std.specs.Prelude.{◌≡◌, ◌⊎◌, ◌++◌, ℕ, List, [], ◌∷◌, Option, Some, None, Result, IfSome}
+-- Once that keeper no longer answers, it is given up and closed, and before the next request one is
+-- opened anew; where none could be opened, that request is refused, and the next one tries again.
+use Rattle.std.specs.Prelude.{◌≡◌, ◌⊎◌, ◌++◌, ℕ, List, [], ◌∷◌, Option, Some, None, Result}
+use Rattle.lab_forms_texts.specs.declared.refusals.Fault.{Fault}
+use Rattle.lab_records_keeper.specs.declared.faults.BadStore.{BadStore}
 use Rattle.lab_records_keeper.specs.declared.keeper.Keeper.{Ghosts}
 use Rattle.lab_records_keeper.specs.Worlds.{Passes}
 use Rattle.lab_desk_events.specs.Keeping.{GivenWithin, Stays, StaysOn}
+use Rattle.lab_desk.specs.Answering.{AnswersRequest}
 use Rattle.lab_desk.specs.Desk.{Served}
 use Rattle.lab_desk.specs.Serving.{HandlesRequest}
 use Rattle.lab_program_serve.specs.declared.shut.Shut.{Shut}
@@ -27,13 +30,6 @@ abbrev pub visits_of : {S : Type 0} → List (Time S) → List Visit
 visits_of [] = []
 visits_of (time ∷ times) = (time.visits ++ time.refused) ++ visits_of times
 
--- the last time ends with this keeper, unless none could be opened
-abbrev pub EndWith : {S : Type 0} → List (Time S) → Option (Served S) → Type 0
-EndWith [] left = ⊥
-EndWith (time ∷ []) left =
-    IfSome left (λ desk. (time.refused ≡ []) × (time.last ≡ desk.keeper))
-EndWith (time ∷ next ∷ times) left = EndWith (next ∷ times) left
-
 -- the request of a connection was handled as by a keeper that a fault has shut
 pub record IsHandledShut (visit : Visit) : Type 0 where
   pub old : Shut
@@ -54,6 +50,32 @@ module _ {S : Type 0} (keeper : Ghosts S) where
     pub stays : GivenWithin (keeper.world old) (keeper.world new)
         (Stays (keeper.world old) (keeper.world new))
     pub passes : Passes (keeper.world old) (keeper.world new)
+
+  -- a keeper is as it was, or was asked whether it answers
+  abbrev pub IsAsked : S → S → Type 0
+  IsAsked old new = (new ≡ old)
+      ⊎ ((answer : Result (Unit {0}) (Fault BadStore)) × AnswersRequest keeper old new answer)
+
+  -- where there is a desk
+  abbrev pub IsAskedIfAny : Option (Served S) → Option (Served S) → Type 0
+  IsAskedIfAny (Some old) (Some new) = IsAsked old.keeper new.keeper
+  IsAskedIfAny None None = Unit {0}
+  IsAskedIfAny old new = ⊥
+
+  module _ (closed : S → Type 0) where
+    -- the keeper that a time ends with is given up: it is closed as it is, or as it was asked
+    pub record IsGivenUp (last : S) : Type 0 where
+      pub given_up : S
+      pub asked : IsAsked last given_up
+      pub closed_so : closed given_up
+
+    -- the last time ends with this keeper, unless none could be opened; and the keeper that any
+    -- other time ends with is given up
+    abbrev pub EndWith : List (Time S) → Option (Served S) → Type 0
+    EndWith [] left = ⊥
+    EndWith (time ∷ []) (Some desk) = (time.refused ≡ []) × (time.last ≡ desk.keeper)
+    EndWith (time ∷ []) None = IsGivenUp time.last
+    EndWith (time ∷ next ∷ times) left = IsGivenUp time.last × EndWith (next ∷ times) left
 
 module _ {S : Type 0} (keeper : Ghosts S) (opened : S → Type 0) where
   -- one time. Its keeper passes on what every call passes on, and all that stays true stays so,
@@ -76,37 +98,40 @@ module _ {S : Type 0} (keeper : Ghosts S) (opened : S → Type 0) where
   abbrev pub IsFresh : Served S → Type 0
   IsFresh new = opened new.keeper × (new.reply ≡ [])
 
-  -- before a request: the keeper is as it was, or answered where the last reply was one for the
-  -- store's sake; or another was opened, or none could be
-  abbrev pub IsMended : Option (Served S) → Option (Served S) → Type 0
-  IsMended (Some old) (Some new) = GoesOn keeper old.reply old.keeper new.keeper ⊎ IsFresh new
-  IsMended None (Some new) = IsFresh new
-  IsMended old None = Unit {0}
-
-  -- and then it is served, or refused
+  -- a request is served over the desk that there is, or refused where there is none
   abbrev pub IsMet : Option (Served S) → Visit → Option (Served S) → Type 0
   IsMet (Some old) visit (Some new) =
       IsServed keeper old.keeper visit new.keeper × (new.reply ≡ visit.exchange.reply)
   IsMet None visit None = IsHandledShut visit
   IsMet old visit new = ⊥
 
-  pub record IsNext (old : Option (Served S)) (visit : Visit) (new : Option (Served S)) :
-      Type 0 where
-    pub start : Option (Served S)
-    pub mended : IsMended old start
-    pub met : IsMet start visit new
-
   -- the first time begins with this keeper
   abbrev pub BeginWith : S → List (Time S) → Type 0
   BeginWith first [] = ⊥
   BeginWith first (time ∷ times) = time.first ≡ first
 
-  -- so many connections were wanted, this is how serving them ended, and this keeper was left
-  pub record ServesTimes {F : Type 0} (first : S) (left : Option (Served S))
-      (ending : Result (Unit {0}) F) (count : ℕ) (sources : Sources) : Type 0 where
-    pub times : List (Time S)
-    pub begin : BeginWith first times
-    pub ends : EndWith times left
-    pub are : AreTimes times
-    pub counted : AreCounted ending count (visits_of times)
-    pub given : KeepsGiven ending (visits_of times) sources
+  module _ (closed : S → Type 0) where
+    -- before a request: the keeper is as it was, or answered where the last reply was one for the
+    -- store's sake; or it is given up, and another was opened, or none could be
+    abbrev pub IsMended : Option (Served S) → Option (Served S) → Type 0
+    IsMended (Some old) (Some new) = GoesOn keeper old.reply old.keeper new.keeper
+        ⊎ (IsGivenUp keeper closed old.keeper × IsFresh new)
+    IsMended None (Some new) = IsFresh new
+    IsMended (Some old) None = IsGivenUp keeper closed old.keeper
+    IsMended None None = Unit {0}
+
+    pub record IsNext (old : Option (Served S)) (visit : Visit) (new : Option (Served S)) :
+        Type 0 where
+      pub start : Option (Served S)
+      pub mended : IsMended old start
+      pub met : IsMet start visit new
+
+    -- so many connections were wanted, this is how serving them ended, and this keeper was left
+    pub record ServesTimes {F : Type 0} (first : S) (left : Option (Served S))
+        (ending : Result (Unit {0}) F) (count : ℕ) (sources : Sources) : Type 0 where
+      pub times : List (Time S)
+      pub begin : BeginWith first times
+      pub ends : EndWith keeper closed times left
+      pub are : AreTimes times
+      pub counted : AreCounted ending count (visits_of times)
+      pub given : KeepsGiven ending (visits_of times) sources

@@ -1,7 +1,7 @@
 //! A desk over a keeper that is opened anew once it doesn't answer.
 
-ghost use Rattle.std.specs.Prelude.{◌≡◌, true, false, ℕ, List, [], Some, None, option_map, IfOk};
-ghost use Rattle.lab_program_serve.specs.Times.{IsMended, IsNext};
+ghost use Rattle.std.specs.Prelude.{◌≡◌, true, false, ℕ, List, [], Some, None, option_map, IfOk, IfSome};
+ghost use Rattle.lab_program_serve.specs.Times.{IsAsked, IsAskedIfAny, IsMended, IsNext};
 ghost use Rattle.lab_program_serve.specs.Visits.{GoesOn};
 
 use crate::openings::Opener;
@@ -77,7 +77,9 @@ impl<S: Keeper + Drop, O: Drop> LiveDesk<S, O> {
     fn is_open<H>(&mut self, host: &mut H) -> bool
     where
         O: Opener<H, S>,
-        ensures { result ≡ true → IsMended S.Keeper O.opened self.old self.new }
+        ensures mended { result ≡ true →
+            IsMended S.Keeper O.opened O.closed self.old self.new }
+        ensures asked { IsAskedIfAny S.Keeper self.old self.new }
     {
         let is_there = self.opener.is_there(host);
         match self.desk.take() {
@@ -104,14 +106,16 @@ impl<S: Keeper + Drop, O: Drop> LiveDesk<S, O> {
         }
     }
 
-    // Gives up the keeper, if there is one.
+    // Gives up the keeper, if there is one: behind its last call it is closed.
     fn give_up<H>(&mut self, host: &mut H)
     where
         O: Opener<H, S>,
-        ensures { self.new ≡ None }
+        ensures none { self.new ≡ None }
+        ensures closed { IfSome self.old (λ desk. O.closed desk.keeper) }
     {
         if let Some(desk) = self.desk.take() {
-            self.opener.close(host, desk.into_keeper());
+            let finished = self.opener.finish(desk.into_keeper());
+            self.opener.close(host, finished);
         }
     }
 
@@ -119,7 +123,7 @@ impl<S: Keeper + Drop, O: Drop> LiveDesk<S, O> {
     fn mend<H>(&mut self, alloc: Global, host: &mut H)
     where
         O: Opener<H, S>,
-        ensures { IsMended S.Keeper O.opened self.old self.new }
+        ensures { IsMended S.Keeper O.opened O.closed self.old self.new }
     {
         if self.is_open(host) {
             return;
@@ -148,7 +152,7 @@ impl<S: Keeper + Drop, O: Drop> LiveDesk<S, O> {
     ) -> Result<(), ConnectionFault>
     where
         O: Opener<H, S>,
-        ensures { (reply : List ℕ) × IsNext S.Keeper O.opened self.old (record {
+        ensures { (reply : List ℕ) × IsNext S.Keeper O.opened O.closed self.old (record {
           exchange = record { known = R.remaining reader; tick = tick.now; reply = reply };
           ending = result;
           before = W.contents writer.old;
@@ -187,8 +191,9 @@ impl<S: Keeper + Drop, O: Drop> LiveDesk<S, O> {
 // since nothing but a fault of the store shuts a keeper. One that had no memory to answer doesn't
 // count as live, so that each request finds a keeper that is.
 fn is_live<S: Keeper + Drop>(desk: &mut Desk<S>, lab: &LabCode) -> bool
-    ensures { result ≡ true →
+    ensures on { result ≡ true →
         GoesOn S.Keeper desk.old.reply desk.old.keeper desk.new.keeper }
+    ensures asked { IsAsked S.Keeper desk.old.keeper desk.new.keeper }
 {
     if !desk.reply().starts_with(UNAVAILABLE) {
         return true;

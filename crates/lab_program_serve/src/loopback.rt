@@ -202,7 +202,7 @@ where
     L::Stream: Read + Write + OpenStream,
     ensures printed { IsAnnounced result (W.contents output.old) (W.contents output.new) }
     ensures served { IfSome live_desk.old (λ desk. O.opened desk.keeper →
-        ServesTimes S.Keeper O.opened desk.keeper live_desk.new result count (listened
+        ServesTimes S.Keeper O.opened O.closed desk.keeper live_desk.new result count (listened
         (drawing_of (C.coming host.old.clock) (C.coming host.new.clock)
         (X.coming host.old.chance) (X.coming host.new.chance)))) }
 {
@@ -228,7 +228,7 @@ where
     O: Opener<H, S> + Drop,
     L: OpenListener + Drop,
     L::Stream: Read + Write + OpenStream,
-    ensures { IsServing S.Keeper O.opened live_desk.old live_desk.new
+    ensures { IsServing S.Keeper O.opened O.closed live_desk.old live_desk.new
         (drawing_of (C.coming host.old.clock) (C.coming host.new.clock)
         (X.coming host.old.chance) (X.coming host.new.chance)) count (record {
           before = W.contents output.old;

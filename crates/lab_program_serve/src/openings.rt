@@ -1,16 +1,25 @@
 //! Who opens a keeper, and opens it anew.
 
-ghost use Rattle.std.specs.Prelude.{IfOk};
+ghost use Rattle.std.specs.Prelude.{◌≡◌, IfOk};
 
 use lab_records_keeper::KeeperFault;
 use std::alloc::Global;
 
 /// Who opens a keeper that lies somewhere, and opens it anew once it doesn't answer.
 pub trait Opener<H, S> {
+    /// A keeper behind its last call. Whoever has one can only close it.
+    type Finished;
+
     /// What is known of a keeper that was opened.
     ghost opened: { S → Type 0 };
 
-    /// Whether what was opened last still lies where it was opened.
+    /// What is known of a keeper that was closed.
+    ghost closed: { S → Type 0 };
+
+    /// Returns the keeper of a finished one.
+    ghost keeper_of: { Self.Finished → S };
+
+    /// Returns whether what was opened last still lies where it was opened.
     fn is_there(&mut self, host: &mut H) -> bool;
 
     /// Opens the keeper.
@@ -20,6 +29,11 @@ pub trait Opener<H, S> {
     fn open(&mut self, alloc: Global, host: &mut H) -> Result<S, KeeperFault>
         ensures { IfOk result opened };
 
+    /// Takes a keeper behind its last call.
+    fn finish(&self, keeper: S) -> Self::Finished
+        ensures { keeper_of result ≡ keeper };
+
     /// Closes a keeper. A fault is passed over, since nothing is lost by it.
-    fn close(&mut self, host: &mut H, keeper: S);
+    fn close(&mut self, host: &mut H, finished: Self::Finished)
+        ensures { closed (keeper_of finished) };
 }

@@ -22,6 +22,13 @@ impl Keeper for Shut {
 
     ghost places = { λ _ _ _. Unit {0} };
 
+    // That the keeper is shut is why.
+    ghost refuses_load = { λ _ _ _ _. Unit {0} };
+
+    ghost refuses_changes = { λ _ _ _ _. Unit {0} };
+
+    ghost refuses_founding = { λ _ _ _. Unit {0} };
+
     fn load(&mut self, _code: &LabCode, _need: &Need) -> Result<Option<Slice>, KeeperFault> {
         Err(self.fault)
     }

@@ -5,7 +5,7 @@ use Rattle.lab_program_files.proofs.copying.copy_file.Goals as goal
 
 pub returns-in_default-clause-untouched : goal.returns-in_default-clause-untouched
 returns-in_default-clause-untouched g c =
-    subst (IsOurs g.H.Disk.Store (g.H.Volume.holds c.args.host.now.volume c.args.path.now))
+    subst (IsOurs g.H.Disk.Store (g.H.Volume.file c.args.host.now.volume c.args.path.now).holds)
     (sym c.new.ensures) c.in-Ok.ensures.ours
 
 pub returns-clause-copies : goal.returns-clause-copies

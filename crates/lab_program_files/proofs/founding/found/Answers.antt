@@ -7,9 +7,12 @@ use Rattle.lab_program_files.proofs.founding.found.Goals as goal
 pub returns-in-Ok-Ok : goal.returns-in-Ok-Ok
 returns-in-Ok-Ok g c = record {
   ending = c.found_in_file.result.ending;
-  ends = IfOk-weaker c.found_in_file.result.ending _ _ (λ ending it. it.0) c.found_in_file.ensures.ends;
+  ends = IfOk-weaker c.found_in_file.result.ending _ _
+      (λ ending it. (c.found_in_file.result.finished, it, c.close.ensures.closed))
+      c.found_in_file.ensures.ends;
   prints = c.found_in_file.ensures.prints;
   unbegun = c.found_in_file.ensures.unbegun;
+  cause = c.found_in_file.ensures.cause;
   told = rw (sym c.close.ensures.ending, c.in-Ok-Ok.is, c.in-Ok-Ok.field-0-is)
       (refl, Keeps-refl _);
 }
@@ -17,9 +20,12 @@ returns-in-Ok-Ok g c = record {
 pub returns-in-Ok-Err : goal.returns-in-Ok-Err
 returns-in-Ok-Err g c = record {
   ending = c.found_in_file.result.ending;
-  ends = IfOk-weaker c.found_in_file.result.ending _ _ (λ ending it. it.0) c.found_in_file.ensures.ends;
+  ends = IfOk-weaker c.found_in_file.result.ending _ _
+      (λ ending it. (c.found_in_file.result.finished, it, c.close.ensures.closed))
+      c.found_in_file.ensures.ends;
   prints = c.found_in_file.ensures.prints;
   unbegun = c.found_in_file.ensures.unbegun;
+  cause = c.found_in_file.ensures.cause;
   told = rw (sym c.close.ensures.ending, c.in-Ok-Err.is, c.in-Ok-Err.field-0-is)
       (rw c.word.ensures at c.decline.ensures);
 }
@@ -27,8 +33,11 @@ returns-in-Ok-Err g c = record {
 pub returns-in-Err : goal.returns-in-Err
 returns-in-Err g c = record {
   ending = c.found_in_file.result.ending;
-  ends = IfOk-weaker c.found_in_file.result.ending _ _ (λ ending it. it.0) c.found_in_file.ensures.ends;
+  ends = IfOk-weaker c.found_in_file.result.ending _ _
+      (λ ending it. (c.found_in_file.result.finished, it, c.close.ensures.closed))
+      c.found_in_file.ensures.ends;
   prints = c.found_in_file.ensures.prints;
   unbegun = c.found_in_file.ensures.unbegun;
+  cause = c.found_in_file.ensures.cause;
   told = rw (sym c.close.ensures.ending, c.in-Err.is) c.decline_to_open.ensures;
 }

@@ -23,7 +23,7 @@ returns-in_default-clause-ends g c = (
 
 pub returns-clause-ends : goal.returns-clause-ends
 returns-clause-ends g c =
-    let opened = kept_so (IsOpened g.H.Disk.Store (g.H.Volume.holds c.args.host.now.volume c.args.path.now)) c.in-Ok.conn c.new.result
+    let opened = kept_so (IsOpened g.H.Disk.Store (g.H.Volume.file c.args.host.now.volume c.args.path.now).holds) c.in-Ok.conn c.new.result
     c.in-Ok-new.desk.keeper c.in-Ok-new.ensures.keeper c.new.ensures c.in-Ok.ensures.opened in (
       (
         c.in-Ok-new.desk.keeper,

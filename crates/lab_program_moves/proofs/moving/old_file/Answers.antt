@@ -1,8 +1,18 @@
--- It was found, and asked, and is one of an older schema.
+-- It was found, and asked, and is one of an older schema, or owes the refusal; or it wasn't found.
+use Rattle.std.proofs.Common.{inr}
 use Rattle.lab_program_moves.proofs.moving.old_file.Goals as goal
 
-pub returns-in-Ok : goal.returns-in-Ok
-returns-in-Ok g c = (
+pub returns-in-Err-clause-refused : goal.returns-in-Err-clause-refused
+returns-in-Err-clause-refused g c = inr (record {
+  found = c.in_ok-conn.conn;
+  conn = c.open_old-2.new.file.conn;
+  finds = c.in_ok-conn.ensures.found;
+  passes = c.in-Err.ensures.reads.passes;
+  owed = λ clean. c.in-Err.ensures.owed clean;
+})
+
+pub returns-in-Ok-clause-asked : goal.returns-in-Ok-clause-asked
+returns-in-Ok-clause-asked g c = (
   c.in_ok-conn.conn,
   c.in_ok-conn.ensures.found,
   c.in-Ok.ensures.reads.passes,

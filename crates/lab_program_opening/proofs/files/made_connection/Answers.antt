@@ -1,5 +1,7 @@
--- What is handed out had none of the tables when they were made.
-use Rattle.lab_program_opening.proofs.FileLemmas.{leaves_shown, untaken}
+-- What is handed out had none of the tables when they were made; and a failed making has its cause.
+use Rattle.std.proofs.Common.{◌≡◌, refl}
+use Rattle.std.proofs.lemmas.Result.{IfErr-at_err}
+use Rattle.lab_program_opening.proofs.FileLemmas.{leaves_shown, make_cause, untaken}
 use Rattle.lab_program_opening.proofs.files.made_connection.Goals as goal
 
 pub returns-in-Ok-clause-made : goal.returns-in-Ok-clause-made
@@ -9,3 +11,12 @@ returns-in-Ok-clause-made g c = (
   c.in-Ok.ensures.made,
   c.in-Ok.ensures.ends,
 )
+
+pub returns-in-Err-clause-unmade : goal.returns-in-Err-clause-unmade
+returns-in-Err-clause-unmade g c = record {
+  conn = c.create.new.conn;
+  cause = make_cause _ c.in-Err.fault (λ is. (c.in-Err.ensures.not_empty is).0) c.in-Err.ensures.fault;
+  taken = λ there. IfErr-at_err (λ fault. c.in-Err.fault ≡ fault) (c.in-Err.ensures.taken there) refl;
+  ends = c.in-Err.ensures.ends;
+  closed_so = (c.close_whole.result, c.close_whole.ensures);
+}

@@ -1,7 +1,6 @@
 -- The desk that is there serves, or the one for requests that are refused.
 use Rattle.std.proofs.Common.{◌≡◌, Some, None, ap, refl, rules, subst, sym}
 use Rattle.lab_program_serve.specs.Times.{IsMended, IsNext}
-use Rattle.lab_program_serve.proofs.TimeLemmas.{mended_none}
 use Rattle.lab_program_serve.proofs.VisitLemmas.{unserved}
 use Rattle.lab_program_serve.proofs.live_desks.LiveDesk.visit.Goals as goal
 
@@ -12,8 +11,8 @@ returns-in-Some g c =
       c.serve_connection-ending.new.desk.reply,
       record {
         start = Some c.in-Some.desk;
-        mended = subst (IsMended g.S.Keeper g.O.Opener.opened c.args.self.now) there
-            c.mend.ensures;
+        mended = subst (IsMended g.S.Keeper g.O.Opener.opened g.O.Opener.closed c.args.self.now)
+            there c.mend.ensures;
         met = (
           record {
             handled = served.handled;
@@ -31,16 +30,19 @@ returns-in-Some g c =
 pub returns-in-None : goal.returns-in-None
 returns-in-None g c =
     let none : c.take.new.self ≡ None = search rules in
+    let before : c.mend.new.self ≡ None = search rules in
     let served = c.serve_connection.ensures in (
       c.serve_connection.new.desk.reply,
-      subst (IsNext g.S.Keeper g.O.Opener.opened c.args.self.now _) (sym none) (record {
-        start = None;
-        mended = mended_none g.S.Keeper g.O.Opener.opened c.args.self.now;
-        met = record {
-          old = c.self.inside.shut.keeper;
-          new = c.serve_connection.new.desk.keeper;
-          handled = served.handled;
-          sent = served.written;
-        };
-      }),
+      subst (IsNext g.S.Keeper g.O.Opener.opened g.O.Opener.closed c.args.self.now _) (sym none)
+          (record {
+            start = None;
+            mended = subst (IsMended g.S.Keeper g.O.Opener.opened g.O.Opener.closed c.args.self.now)
+                before c.mend.ensures;
+            met = record {
+              old = c.self.inside.shut.keeper;
+              new = c.serve_connection.new.desk.keeper;
+              handled = served.handled;
+              sent = served.written;
+            };
+          }),
     )
