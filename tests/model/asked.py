@@ -75,9 +75,8 @@ READING = {
     "a copy over HTTP": lambda s, wants, words: s.copy(1200, "hal", 1, 100, words=words),
 }
 COMMANDS = {**WRITING, **READING}
-# What makes a password, or a half of one, with today's rounds; and what tries one alone.
-MAKING_PASSWORDS = ["another password", "an issue", "a confirmation"]
-TRYING_PASSWORDS = ["an opening", "an opening that locks", "a signing", "a review", "a rejection", "an approval"]
+# What tries a password.
+TRYING_PASSWORDS = ["an opening", "an opening that locks", "another password", "a signing", "a review", "a rejection", "an approval"]
 
 
 def one(name):

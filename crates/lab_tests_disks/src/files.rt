@@ -23,7 +23,7 @@ const NARROW: Options = Options {
 
 /// What is done with a file.
 #[derive(Clone, Copy)]
-pub enum Task<'a> {
+pub(crate) enum Task<'a> {
     /// The tables of laboratories are made.
     Make,
     /// Statements are run, one text after the other, with ids of that kind.
@@ -43,7 +43,7 @@ pub enum Task<'a> {
 
 /// What came of it.
 #[derive(Drop)]
-pub enum Outcome {
+pub(crate) enum Outcome {
     /// The file was not opened.
     Unopened,
     /// It was opened, and is none of laboratories.

@@ -9,11 +9,11 @@ pub(crate) type Pair = Files<Fuse<Memory>>;
 
 /// What a log and its file hold.
 #[derive(Drop)]
-pub struct Image {
+pub(crate) struct Image {
     /// The bytes of the log.
-    pub log: Vec<u8>,
+    pub(crate) log: Vec<u8>,
     /// The bytes of the file.
-    pub file: Vec<u8>,
+    pub(crate) file: Vec<u8>,
 }
 
 /// How many calls of each disk are passed on. Each later one fails.
@@ -31,7 +31,7 @@ pub(crate) const EACH: Passed = Passed {
 
 /// Which of both is stopped.
 #[derive(Clone, Copy)]
-pub enum Stopped {
+pub(crate) enum Stopped {
     /// That of the log.
     Log,
     /// That of the file.
@@ -56,7 +56,7 @@ impl Stopped {
 
 impl Image {
     /// Nothing.
-    pub fn empty(alloc: Global) -> Image {
+    pub(crate) fn empty(alloc: Global) -> Image {
         Image {
             log: Vec::new(alloc),
             file: Vec::new(alloc),
@@ -64,7 +64,7 @@ impl Image {
     }
 
     /// Whether both hold the same.
-    pub fn is(&self, other: &Image) -> bool {
+    pub(crate) fn is(&self, other: &Image) -> bool {
         self.log == other.log && self.file == other.file
     }
 }

@@ -1,12 +1,19 @@
-//! Files of laboratories over disks in memory, of which one is stopped at each of its calls in
-//! turn, while a task is tried on them. No call ends a program, so that crates of tests may share them; each stands in a function
-//! without clauses, so that the proof of a test doesn't carry what a file promises.
+//! Tests of files over disks in memory: each call of a disk is stopped in turn while a task is tried
+//! on a file of laboratories; and a disk forgets what a failed sync had, and its file is written
+//! anew. They stand apart, so that no crate is proved once more with them.
 #![tactic(auto)]
 
+#[cfg(test)]
+mod events;
+#[cfg(test)]
 mod files;
+#[cfg(test)]
+mod forgetful;
+#[cfg(test)]
 mod images;
+#[cfg(test)]
+mod lost_byte;
+#[cfg(test)]
+mod stop_tests;
+#[cfg(test)]
 mod stops;
-
-pub use files::{Outcome, Task};
-pub use images::{Image, Stopped};
-pub use stops::{Comes, Ends, Says, Trial, stop_each, told_by, written_by};

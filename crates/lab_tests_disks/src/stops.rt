@@ -8,7 +8,7 @@ const MOST: u64 = 4096;
 
 /// What comes of a task.
 #[derive(Clone, Copy)]
-pub enum Comes<'a> {
+pub(crate) enum Comes<'a> {
     /// It is done.
     Filled,
     /// The store refuses it.
@@ -21,7 +21,7 @@ pub enum Comes<'a> {
 
 /// What a file is once it is opened.
 #[derive(Clone, Copy)]
-pub enum Says<'a> {
+pub(crate) enum Says<'a> {
     /// None of laboratories.
     NotOurs,
     /// One whose rows say what has this digest.
@@ -30,30 +30,30 @@ pub enum Says<'a> {
 
 /// A task, and what may come of it.
 #[derive(Clone, Copy)]
-pub struct Trial<'a> {
+pub(crate) struct Trial<'a> {
     /// The task.
-    pub task: Task<'a>,
+    pub(crate) task: Task<'a>,
     /// What comes of it where it is done.
-    pub done: Comes<'a>,
+    pub(crate) done: Comes<'a>,
     /// What comes of it where the store refuses.
-    pub refused: Comes<'a>,
+    pub(crate) refused: Comes<'a>,
     /// What comes of it where it was done before; none where it isn't tried again.
-    pub again: Option<Comes<'a>>,
+    pub(crate) again: Option<Comes<'a>>,
     /// What the file is before it.
-    pub before: Says<'a>,
+    pub(crate) before: Says<'a>,
     /// What the file is after it.
-    pub after: Says<'a>,
+    pub(crate) after: Says<'a>,
 }
 
 /// How many runs ended so, of which in each one call more is passed on than in that before it.
 #[derive(Clone, Copy, Debug, PartialEq, Eq)]
-pub struct Ends {
+pub(crate) struct Ends {
     /// The file wasn't opened.
-    pub unopened: u32,
+    pub(crate) unopened: u32,
     /// The store refused.
-    pub refused: u32,
+    pub(crate) refused: u32,
     /// The task was done.
-    pub done: u32,
+    pub(crate) done: u32,
 }
 
 // How a run ended.
@@ -109,7 +109,7 @@ fn end_of(outcome: &Outcome, trial: &Trial<'_>) -> Option<End> {
 }
 
 /// What lies there once the task was done with the file; none where it couldn't be.
-pub fn written_by(alloc: Global, image: &Image, task: Task<'_>) -> Option<Image> {
+pub(crate) fn written_by(alloc: Global, image: &Image, task: Task<'_>) -> Option<Image> {
     let mut outcome = Outcome::Unopened;
     let disks = laid(alloc, image, EACH)?;
     let left = work(alloc, disks, task, &mut outcome)?;
@@ -121,7 +121,7 @@ pub fn written_by(alloc: Global, image: &Image, task: Task<'_>) -> Option<Image>
 }
 
 /// What comes of telling what the tables of the file say.
-pub fn told_by(alloc: Global, image: &Image) -> Outcome {
+pub(crate) fn told_by(alloc: Global, image: &Image) -> Outcome {
     let mut outcome = Outcome::Failed;
     let Some(disks) = laid(alloc, image, EACH) else {
         return outcome;
@@ -249,7 +249,7 @@ fn run(alloc: Global, image: &Image, passed: Passed, trial: &Trial<'_>) -> Optio
 /// # Errors
 /// So many calls were passed on in a run that ended otherwise than it may, or left what may not lie
 /// there, or from which the task tried again doesn't go on.
-pub fn stop_each(
+pub(crate) fn stop_each(
     alloc: Global,
     image: &Image,
     stopped: Stopped,

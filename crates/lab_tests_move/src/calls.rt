@@ -1,4 +1,5 @@
-//! Calls without clauses, so that the proof of a test doesn't carry what a connection holds after each.
+//! Calls without clauses, so that the proof of a test doesn't carry what a connection holds after
+//! each.
 use lab_move::{MoveFault, OldFile, Unwatched, migrate};
 use lab_move_files::{finish, make_tables};
 use lab_move_write::place_lab;

@@ -1,5 +1,5 @@
-//! Files of schema 2 in memory, and laboratories put into them: each is placed in a file of today's, and its rows are carried
-//! over without the columns that schema 2 lacks.
+//! Files of schema 2 in memory, and laboratories put into them: each is placed in a file of
+//! today's, and its rows are carried over without the columns that schema 2 lacks.
 use crate::calls::{File, database, made, placed};
 use crate::old_texts;
 use lab_records_kept::Lab;
@@ -66,8 +66,9 @@ fn carry_work(rt: &(impl Abort + AllocGlobal), from: &mut File, to: &mut File, a
     carry(rt, from, to, apart, signatures);
 }
 
-/// Puts a laboratory into a file of schema 2, with ids so far behind those that it would have alone. Its versions are of format
-/// 1, its forms want no approvals, and its verifiers have 10,000 rounds.
+/// Puts a laboratory into a file of schema 2, with ids so far behind those that it would have
+/// alone. Its versions are of format 1, its forms want no approvals, and its verifiers have 10,000
+/// rounds.
 pub(crate) fn put(rt: &(impl Abort + AllocGlobal), to: &mut File, lab: &Lab, apart: i64) {
     let mut from = database(rt, "");
     let made = made(&mut from);

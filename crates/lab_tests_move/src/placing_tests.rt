@@ -75,7 +75,8 @@ fn a_laboratory_is_placed_whole_and_the_file_is_finished(rt: HostRuntime) {
     drop(conn);
 }
 
-// The session is of nobody whom the laboratory has: the row of the laboratory and those of its persons go again.
+// The session is of nobody whom the laboratory has: the row of the laboratory and those of its
+// persons go again.
 #[test]
 fn a_laboratory_of_which_one_row_is_refused_leaves_none(rt: HostRuntime) {
     let lab = lab(&rt, "zoe");

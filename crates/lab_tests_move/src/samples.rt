@@ -31,7 +31,8 @@ fn lab_with(rt: &(impl Abort + AllocGlobal), code: &str, worker: &str, record: R
     }
 }
 
-/// The laboratory aqua, in which a session is of this person. Its one signature is of another digest.
+/// The laboratory aqua, in which a session is of this person. Its one signature is of another
+/// digest.
 pub(crate) fn lab(rt: &(impl Abort + AllocGlobal), worker: &str) -> Lab {
     let signatures = alone(rt, signature(rt));
     lab_with(rt, "aqua", worker, record(rt, signatures))
