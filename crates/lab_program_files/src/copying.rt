@@ -7,14 +7,15 @@ ghost use Rattle.lab_program_files.specs.FileWorlds.{file_keeper};
 ghost use Rattle.lab_program_opening.specs.Ends.{WasClosed};
 ghost use Rattle.lab_program_opening.specs.Files.{IsOurs, IsUnopened};
 
+use crate::files::open_file;
 use lab_forms_streams::WriteFault;
 use lab_forms_texts::{LabCode, Ordinal};
 use lab_program_host::{Clock, Host};
 use lab_program_opening::{
-    Closable, Ended, Finished, OpenFault, Trouble, Volume, decline, decline_to_open, open_file,
+    Closable, Ended, Finished, OpenFault, Trouble, Volume, decline, decline_to_open,
 };
 use lab_records_copy_out::{CopyOutFault, Progress, copy_out};
-use lab_store::{OneVersionAtATime, Store};
+use lab_store::OneVersionAtATime;
 use sqlite::Connection;
 use std::io::Write;
 
@@ -48,8 +49,8 @@ where
         (H.file host.old.volume path.now) fault)
         (λ _. fault ≡ OpenFault.Drawing)) }
 {
-    let conn = match open_file(host.alloc, &mut host.volume, path) {
-        Ok(conn) => conn,
+    let mut store = match open_file(host.alloc, &mut host.volume, path) {
+        Ok(store) => store,
         Err(fault) => {
             return Ended {
                 ending: Err(fault),
@@ -60,10 +61,9 @@ where
     let Ok(moment) = host.clock.moment() else {
         return Ended {
             ending: Err(OpenFault::Drawing),
-            finished: Some(Finished::new(conn)),
+            finished: Some(Finished::new(store.into_connection())),
         };
     };
-    let mut store = Store::new(host.alloc, conn);
     let ending = copy_out(
         host.alloc,
         &mut store,

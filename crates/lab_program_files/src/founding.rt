@@ -13,15 +13,14 @@ ghost use Rattle.lab_records_keeper.specs.Worlds.{Passes};
 ghost use Rattle.lab_program_host.specs.declared.faults.ServerFault.TheVariants.{Write as NotWritten};
 ghost use Rattle.lab_program_host.specs.declared.faults.RehearsalFault.TheVariants.{Server as OfServer};
 
+use crate::files::make_file;
 use lab_forms_streams::{WriteFault, write_whole};
 use lab_forms_texts::{LabCode, OutOfMemory, Tick};
 use lab_program_host::{Chance, Clock, FoundFault, Host, ServerFault, draw, read_all};
 use lab_program_opening::{
     Closable, Ended, Finished, FoundingFault, OpenFault, Trouble, Volume, decline, decline_to_open,
-    make_file,
 };
 use lab_program_serve::{Desk, Keeper};
-use lab_store::Store;
 use sqlite::Connection;
 use std::alloc::Global;
 use std::io::{Read, Write};
@@ -152,8 +151,8 @@ where
         (WasClosed ⟦<Connection<H::Disk> as Closable>⟧.closes)
         (H.file host.old.volume path.now)) }
 {
-    let conn = match make_file(host.alloc, &mut host.volume, path) {
-        Ok(conn) => conn,
+    let store = match make_file(host.alloc, &mut host.volume, path) {
+        Ok(store) => store,
         Err(fault) => {
             return Ended {
                 ending: Err(fault),
@@ -161,7 +160,7 @@ where
             };
         }
     };
-    let Ok(mut desk) = Desk::new(host.alloc, Store::new(host.alloc, conn)) else {
+    let Ok(mut desk) = Desk::new(host.alloc, store) else {
         return Ended {
             ending: Ok(Err(FoundingFault::Server(ServerFault::Memory))),
             finished: None,

@@ -3,6 +3,7 @@
 #![tactic(auto)]
 
 mod copying;
+mod files;
 mod founding;
 mod histories;
 mod opening;

@@ -2,7 +2,8 @@
 
 ghost use Rattle.lab_program_opening.specs.Ends.{WasGivenUp};
 
-use lab_program_opening::{Closable, Finished, OpenFault, Volume, open_file};
+use crate::files::open_file;
+use lab_program_opening::{Closable, Finished, OpenFault, Volume};
 use lab_program_serve::Opener;
 use lab_records_keeper::{BadStore, KeeperFault};
 use lab_store::Store;
@@ -67,7 +68,7 @@ where
 
     fn open(&mut self, alloc: Global, host: &mut H) -> Result<Store<H::Disk>, KeeperFault> {
         match open_file(alloc, host, self.path) {
-            Ok(conn) => Ok(Store::new(alloc, conn)),
+            Ok(store) => Ok(store),
             Err(fault) => Err(opening_fault(fault)),
         }
     }

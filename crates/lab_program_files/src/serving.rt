@@ -8,12 +8,13 @@ ghost use Rattle.lab_program_files.specs.Serving.{ServesAs, ServesFile};
 ghost use Rattle.lab_program_host.specs.Sources.{drawing_of};
 ghost use Rattle.std.specs.Prelude.{◌≡◌, option_map, IfErr, IfOk, IsSomeAnd};
 
+use crate::files::open_file;
 use crate::opening::{FileOpener, close_uncut};
 use lab_forms_streams::WriteFault;
 use lab_program_host::{Chance, Clock, Host, ServerFault};
 use lab_program_opening::{
     Additions, Closable, Ended, Finished, OpenFault, Trouble, Volume, decline, decline_by,
-    decline_to_open, open_file,
+    decline_to_open,
 };
 use lab_program_serve::{Desk, LiveDesk, listen};
 use lab_store::Store;
@@ -36,12 +37,12 @@ where
         (WasClosed ⟦<Connection<H::Disk> as Closable>⟧.closes)
         (H.file volume.old path.now)) }
 {
-    let conn = open_file(alloc, volume, path)?;
-    let additions = Additions::of(conn.schema());
+    let store = open_file(alloc, volume, path)?;
+    let additions = Additions::of(store.schema());
     if !additions.are_none() {
         volume.remark(path, additions);
     }
-    let desk = Desk::new(alloc, Store::new(alloc, conn))?;
+    let desk = Desk::new(alloc, store)?;
     Ok(LiveDesk::new(alloc, FileOpener::new(path), desk)?)
 }
 

@@ -14,7 +14,7 @@ mod volumes;
 pub use crate::additions::Additions;
 pub use crate::ends::{Closable, Ended, Finished};
 pub use crate::faults::{FoundingFault, OpenFault};
-pub use crate::files::{make_file, open_file, open_new, open_old};
+pub use crate::files::{open_new, open_old};
 pub use crate::telling::{decline, decline_by, decline_to_open};
 pub use crate::trouble::Trouble;
 pub use crate::volumes::Volume;

@@ -5,8 +5,8 @@ ghost use Rattle.sqlite.specs.Held.{state};
 ghost use Rattle.sqlite.specs.Steps.{over_memory};
 ghost use Rattle.lab_store.specs.StoreWorlds.{store_world};
 
-use lab_store::Store;
-use lab_store_files::{FileFault, create};
+use lab_store::{Store, Unopened};
+use lab_store_files::FileFault;
 use sqlite::{Connection, MemStore};
 use std::alloc::Global;
 
@@ -20,9 +20,11 @@ pub fn store_in_memory(alloc: Global) -> Result<Store<MemStore>, FileFault>
     ensures honest { IfOk result (λ store. (store_world over_memory store).is_honest) }
     ensures reached { IfOk result (λ store. (store_world over_memory store).is_reached) }
 {
-    let Ok(mut conn) = Connection::open_in_memory(alloc) else {
+    let Ok(conn) = Connection::open_in_memory(alloc) else {
         return Err(FileFault::Memory);
     };
-    create(&mut conn)?;
-    Ok(Store::new(alloc, conn))
+    match Store::create(alloc, conn) {
+        Ok(store) => Ok(store),
+        Err(Unopened { fault, conn: _ }) => Err(fault),
+    }
 }

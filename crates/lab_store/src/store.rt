@@ -27,12 +27,12 @@ use lab_records_kept::{Change, Need, Newborn, Series, Slice};
 use lab_store_load::{Counted, load};
 use lab_store_read_copies::give_records_at;
 use sqlite::{Alter, Connection};
+use sqlite_schema::schema::Schema;
 use std::alloc::Global;
 use std::io::Write;
 use std::marker::Model;
 
-/// The laboratories of a file, over a connection at rest that was created or opened by
-/// `lab_store_files`.
+/// The laboratories of a file, which was made by `create` or opened by `open`.
 ///
 /// The id of the laboratory's row that was read last, and the number of its persons, are kept until
 /// a request changes something: so a commit doesn't look the row up again, and a reading doesn't
@@ -68,8 +68,8 @@ impl<S: Alter> Model for Store<S> {
 }
 
 impl<S: Alter> Store<S> {
-    /// Returns the keeper over a connection.
-    pub fn new(alloc: Global, conn: Connection<S>) -> Store<S>
+    // The keeper over a connection over which a file was made or opened (`src/openings.rt`).
+    pub(crate) fn new(alloc: Global, conn: Connection<S>) -> Store<S>
         requires at_rest { IsAtRest (state S.Store conn) }
         ensures { result ≡ conn }
     {
@@ -78,6 +78,13 @@ impl<S: Alter> Store<S> {
             counted: None,
             alloc,
         }
+    }
+
+    /// Returns the schema of the file, to which another program may have added.
+    pub fn schema(&self) -> &Schema
+        ensures { result.now ≡ (state S.Store self.now).now.schema }
+    {
+        self.tables.conn.schema()
     }
 
     /// Returns the connection, at rest.

@@ -5,9 +5,9 @@ use lab_desk::Desk;
 use lab_forms_texts::OutOfMemory;
 use lab_records_keeper::{Keeper, PlacingFault};
 use lab_records_kept::Newborn;
-use lab_store::Store;
-use lab_store_files::{FileFault, open};
-use lab_tests_rows::{Exchange, ask, database_of, desk, fill_each, make, said, store};
+use lab_store::{Store, Unopened};
+use lab_store_files::FileFault;
+use lab_tests_rows::{Exchange, ask, database_of, fill_each, make, said, store};
 use sqlite::{Alter, Connection, FileStore, Options};
 use sqlite_disk::{Fuse, Memory};
 use std::alloc::Global;
@@ -90,12 +90,11 @@ fn of_telling<S: Alter>(alloc: Global, conn: &mut Connection<S>) -> Outcome {
     }
 }
 
-// Why a file isn't one of laboratories; none where it is one.
-fn refused<S: Alter>(conn: &mut Connection<S>) -> Option<Outcome> {
-    match open(conn) {
-        Ok(()) => None,
-        Err(FileFault::NotADeskFile) => Some(Outcome::NotOurs),
-        Err(_) => Some(Outcome::Unopened),
+// What came of a file that isn't opened as one of laboratories.
+fn of_refusal(fault: FileFault) -> Outcome {
+    match fault {
+        FileFault::NotADeskFile => Outcome::NotOurs,
+        _ => Outcome::Unopened,
     }
 }
 
@@ -114,14 +113,14 @@ fn reply_of<S: Alter + Drop>(
     }
 }
 
-// Asks a desk over the database; none where there was no memory for one.
+// Asks a desk over the store; none where there was no memory for one.
 fn asked<S: Alter + Drop>(
     alloc: Global,
-    conn: Connection<S>,
+    store: Store<S>,
     exchange: &Exchange,
     outcome: &mut Outcome,
 ) -> Option<S> {
-    let mut desk = desk(alloc, conn)?;
+    let mut desk = Desk::new(alloc, store).ok()?;
     *outcome = reply_of(alloc, &mut desk, exchange);
     Some(database_of(desk).into_store())
 }
@@ -146,14 +145,12 @@ fn of_founding<S: Alter>(store: &mut Store<S>, newborn: Newborn) -> Outcome {
     }
 }
 
-// Founds the laboratory in the database; none where there was no memory for one.
+// Founds the laboratory in the store; none where there was no memory for one.
 fn founded<S: Alter + Drop>(
-    alloc: Global,
-    conn: Connection<S>,
+    mut store: Store<S>,
     newborn: &Newborn,
     outcome: &mut Outcome,
 ) -> Option<S> {
-    let mut store = store(alloc, conn)?;
     let newborn = copy_of(newborn).ok()?;
     *outcome = of_founding(&mut store, newborn);
     Some(store.into_connection().into_store())
@@ -162,18 +159,22 @@ fn founded<S: Alter + Drop>(
 // Does what is asked of laboratories, over a database in which they are kept.
 fn worked_on_ours<S: Alter + Drop>(
     alloc: Global,
-    mut conn: Connection<S>,
+    conn: Connection<S>,
     task: Task<'_>,
     outcome: &mut Outcome,
 ) -> Option<S> {
-    if let Some(refusal) = refused(&mut conn) {
-        *outcome = refusal;
-        return Some(conn.into_store());
-    }
+    let store = match store(alloc, conn) {
+        Ok(store) => store,
+        Err(Unopened { fault, conn }) => {
+            *outcome = of_refusal(fault);
+            return Some(conn.into_store());
+        }
+    };
     match task {
-        Task::Ask(exchange) => asked(alloc, conn, exchange, outcome),
-        Task::Found(newborn) => founded(alloc, conn, newborn, outcome),
+        Task::Ask(exchange) => asked(alloc, store, exchange, outcome),
+        Task::Found(newborn) => founded(store, newborn, outcome),
         Task::Make | Task::Fill { .. } | Task::Tell => {
+            let mut conn = store.into_connection();
             *outcome = of_telling(alloc, &mut conn);
             Some(conn.into_store())
         }

@@ -6,21 +6,25 @@ use lab_desk::{Desk, Twins, twin};
 use lab_forms_texts::{LabCode, MomentFault};
 use lab_records_keeper::Keeper;
 use lab_records_kept::{Need, Slice};
-use lab_store::Store;
+use lab_store::{FileFault, Store, Unopened};
 use sqlite::{Alter, Connection};
 use std::alloc::Global;
 
-/// A store over a database; none where a transaction is under way.
-pub fn store<S: Alter + Drop>(alloc: Global, conn: Connection<S>) -> Option<Store<S>> {
+/// A store over a database that is opened as a file of laboratories.
+///
+/// # Errors
+/// Those of opening a file, or a transaction is under way.
+pub fn store<S: Alter>(alloc: Global, conn: Connection<S>) -> Result<Store<S>, Unopened<S>> {
     if !conn.is_autocommit() {
-        return None;
+        let fault = FileFault::Storage;
+        return Err(Unopened { fault, conn });
     }
-    Some(Store::new(alloc, conn))
+    Store::open(alloc, conn)
 }
 
-/// A desk over a database; none where a transaction is under way, or memory ran out.
+/// A desk over a database; none where the database isn't opened, or memory ran out.
 pub fn desk<S: Alter + Drop>(alloc: Global, conn: Connection<S>) -> Option<Desk<Store<S>>> {
-    let store = store(alloc, conn)?;
+    let store = store(alloc, conn).ok()?;
     Desk::new(alloc, store).ok()
 }
 

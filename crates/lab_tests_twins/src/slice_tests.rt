@@ -13,7 +13,7 @@ type Kept = Store<MemStore>;
 
 fn store_over<R: Abort + AllocGlobal>(rt: &R, rows: &[&str], ids: &str) -> Kept {
     let conn = database(rt.alloc(), rows, ids).expect(rt, "a database");
-    store(rt.alloc(), conn).expect(rt, "a store")
+    store(rt.alloc(), conn).ok().expect(rt, "a store")
 }
 
 // All that the slice has which is needed.

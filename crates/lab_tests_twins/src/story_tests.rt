@@ -72,7 +72,7 @@ fn slice_texts<R: Abort + AllocGlobal>(
     conn: Tables,
     needs: &[Need; 3],
 ) -> (Tables, Vec<u8>) {
-    let mut kept = store(rt.alloc(), conn).expect(rt, "a store");
+    let mut kept = store(rt.alloc(), conn).ok().expect(rt, "a store");
     let mut text = Vec::new(rt.alloc());
     for need in needs {
         let slice = part(rt.alloc(), &mut kept, "aqua", need).expect(rt, "a laboratory");

@@ -6,14 +6,14 @@ use Rattle.lab_program_files.proofs.copying.copy_file.Goals as goal
 pub returns-in_default-clause-untouched : goal.returns-in_default-clause-untouched
 returns-in_default-clause-untouched g c =
     subst (IsOurs g.H.Disk.Store (g.H.Volume.file c.args.host.now.volume c.args.path.now).holds)
-    (sym c.new.ensures) c.in-Ok.ensures.ours
+    (sym (c.new.ensures ∙ c.into_connection.ensures.same)) c.in-Ok.ensures.ours
 
 pub returns-clause-copies : goal.returns-clause-copies
 returns-clause-copies g c = (
   record {
-    old = c.new-store.result;
+    old = c.in-Ok.store;
     new = c.copy_out-ending.new.keeper;
-    begins = rw c.new-store.ensures c.in-Ok.ensures.ours;
+    begins = c.in-Ok.ensures.ours;
     moment = c.in-Ok-moment.moment;
     given = c.in-Ok-moment.ensures.given;
     text = c.copy_out-ending.ensures.text;

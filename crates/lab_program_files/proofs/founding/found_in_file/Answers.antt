@@ -1,21 +1,20 @@
 -- Where there is no desk nothing is asked of a keeper; then a founding over it tells. What it left is
 -- closed.
-use Rattle.std.proofs.Common.{◌∙◌, Some, ap, inl, inr, refl}
+use Rattle.std.proofs.Common.{◌∙◌, Some, ap, inl, inr, refl, subst, sym}
 use Rattle.lab_program_host.specs.declared.faults.ServerFault.TheVariants.{Memory}
 use Rattle.lab_program_files.specs.FileWorlds.{file_keeper}
 use Rattle.lab_program_opening.specs.Files.{IsOpened}
-use Rattle.lab_program_opening.proofs.FileLemmas.{kept_so}
 use Rattle.lab_program_files.proofs.FoundingLemmas.{ends_idle, undrawn}
 use Rattle.lab_program_files.proofs.founding.found_in_file.Goals as goal
 
 pub returns-in_default-clause-ends : goal.returns-in_default-clause-ends
 returns-in_default-clause-ends g c = (
   (
-    c.in-Ok.conn,
-    c.in-Ok.conn,
+    c.in-Ok.store,
+    c.in-Ok.store,
     c.in-Ok.ensures.opened,
     ends_idle (file_keeper g.H.Disk.Store) undrawn c.args.lab.now
-        (g.B.Read.remaining c.args.body.now) c.in-Ok.conn Memory tt,
+        (g.B.Read.remaining c.args.body.now) c.in-Ok.store Memory tt,
     record { honest = λ h. h; live = λ h l. l; refusing = λ m. m },
   ),
   inr (refl, refl),
@@ -23,8 +22,9 @@ returns-in_default-clause-ends g c = (
 
 pub returns-clause-ends : goal.returns-clause-ends
 returns-clause-ends g c =
-    let opened = kept_so (IsOpened g.H.Disk.Store (g.H.Volume.file c.args.host.now.volume c.args.path.now).holds) c.in-Ok.conn c.new.result
-    c.in-Ok-new.desk.keeper c.in-Ok-new.ensures.keeper c.new.ensures c.in-Ok.ensures.opened in (
+    let opened = subst
+    (IsOpened g.H.Disk.Store (g.H.Volume.file c.args.host.now.volume c.args.path.now).holds)
+    (sym c.in-Ok-new.ensures.keeper) c.in-Ok.ensures.opened in (
       (
         c.in-Ok-new.desk.keeper,
         c.found_over-ending.new.desk.keeper,
@@ -32,5 +32,5 @@ returns-clause-ends g c =
         c.found_over-ending.ensures.ends,
         c.found_over-ending.ensures.passes,
       ),
-      inl (ap Some (c.new-3.ensures ∙ c.into_connection-left.ensures.same ∙ c.into_keeper.ensures)),
+      inl (ap Some (c.new-2.ensures ∙ c.into_connection-left.ensures.same ∙ c.into_keeper.ensures)),
     )

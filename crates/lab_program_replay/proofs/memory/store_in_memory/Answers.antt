@@ -8,15 +8,12 @@ create-requires c = record {
   at_rest = rests_when_empty _ (rw c.in-Ok.is at c.open_in_memory.ensures.empty);
 }
 
-pub new-requires : goal.new-requires
-new-requires c = record { at_rest = c.create.ensures.ends.at_rest }
-
-pub returns : goal.returns
-returns c =
+pub returns-in-Ok-create : goal.returns-in-Ok-create
+returns-in-Ok-create c =
     let blank = blank_when_empty _ (rw c.in-Ok.is at c.open_in_memory.ensures.empty) in
-    let clean = memory_is_clean c.create.new.conn in
-    rw c.new.ensures (record {
-      nobody = c.in_ok-create.ensures.nobody clean blank;
+    let clean = memory_is_clean c.in-Ok-create.store in
+    record {
+      nobody = c.in-Ok-create.ensures.nobody clean blank;
       honest = clean;
-      reached = c.in_ok-create.ensures.ready clean blank;
-    })
+      reached = c.in-Ok-create.ensures.ready clean blank;
+    }
