@@ -122,10 +122,11 @@ def names_lack(tree):
 
 
 def page_lacks(tree, name, page):
-    """Paths, crates and words of code that a document names in backticks, and the tree doesn't have."""
+    """Paths, crates and words of code that a document names in backticks and the tree, or what the document is about, doesn't have."""
     of_blocks = set(re.findall(r"\w+", "".join(re.findall(r"^```.*?^```$|^    .*$", page, re.M | re.S))))
     for line, crates in lines_of(page):
-        yield from dict.fromkeys([*words_lack(tree, line, of_blocks), *paths_lack(tree, line, name, crates), *homes_lack(tree, line)])
+        yield from dict.fromkeys([*words_lack(tree, line, of_blocks), *paths_lack(tree, line, name, crates), *homes_lack(tree, line),
+                                  *reach_lacks(tree, line, name)])
 
 
 def lines_of(page):
@@ -136,21 +137,29 @@ def lines_of(page):
         yield line, crates
 
 
-# A line each with an invented thing, and what is said of it.
+# A line each with an invented thing, and what is said of it in a document, or in the README of lab_forms.
 INVENTED = {
     "`src/invented.rt` of `lab_desk`": "there is no `src/invented.rt` in lab_desk",
     "`tests/invented`": "there is no `tests/invented`",
     "`lab_invented`": "there is no `lab_invented`",
     "`invented_call`": "nothing in the tree is called `invented_call`",
     "`migrate` of `lab_forms_texts`": "lab_forms_texts has no `migrate`",
+    "`serve_one`": "neither lab_forms nor what it uses has `serve_one`",
+    "[a page](INVENTED.md)": "there is no INVENTED.md",
+    "[a heading](#invented)": "crates/lab_forms/README.md has no heading #invented",
+    "the 9 crates above `lab_program`": "9 crates above `lab_program`, and there are 0",
+    "51 of 998": "51 of 998, and of crates there are {all}",
+    "it is in 997 other crates": "997 crates, and there are {all}",
 }
 
 
-def invented_passes(tree):
-    """Whether an invented name would pass as one of the tree."""
+def invented_passes(tree, boxes):
+    """Whether an invented name, link or count would pass as one of the tree."""
     for line, wanted in INVENTED.items():
-        if list(page_lacks(tree, "docs/INVENTED.md", line)) != [wanted]:
-            yield f"of {line} nothing is said, or another thing"
+        found = [*page_lacks(tree, "crates/lab_forms/README.md", line), *page_misleads(tree, "crates/lab_forms/README.md", line),
+                 *page_miscounts(tree, boxes, line)]
+        if found[:1] != [wanted.replace("{all}", all_counts(tree.uses, boxes))]:
+            yield f"of {line} nothing is said, or another thing: {found}"
 
 
 def words_lack(tree, line, of_blocks):
@@ -179,6 +188,51 @@ def homes_lack(tree, line):
         if crate in tree.uses:
             yield from (f"{crate} has no `{word}`" for span in spans_of(names) for word in re.findall(r"\w+", span)
                         if not word.startswith("lab_") and not tree.has_name(word, f"crates/{crate}/"))
+
+
+def reach_lacks(tree, line, document):
+    """Names in a crate's README that stand neither in its box, nor in a crate that it uses or that the line names."""
+    found = re.fullmatch(r"crates/((lab_[a-z]+)\w*)/README\.md", document)
+    if not found or found[1] not in tree.uses:
+        return
+    crate, box = found[1], found[2]
+    near = {one for one in tree.uses if one == box or one.startswith(f"{box}_")} | set(tree.uses[crate]) | set(re.findall(r"\blab_\w+", line))
+    for span in spans_of(line):
+        if re.fullmatch(r"[A-Za-z_]\w*(::\w+)*(\(\))?", span) and not span.startswith("lab_"):
+            yield from (f"neither {crate} nor what it uses has `{word}`" for word in re.findall(r"\w+", span)
+                        if tree.has_name(word) and word not in near and not any(tree.has_name(word, f"crates/{one}/") for one in near))
+
+
+# ---- where a document leads
+
+
+def links_of(page):
+    return re.findall(r"\]\(([^)\s]+)\)", without_blocks(page))
+
+
+def anchors_of(page):
+    """The anchors of a document's headings, as GitHub and its like make them."""
+    headings = re.findall(r"^#+ (.*)$", re.sub(r"^```.*?^```$", "", page, flags=re.M | re.S), re.M)
+    return {re.sub(r"[^\w -]", "", re.sub(r"\]\([^)]*\)", "", heading).strip().lower()).replace(" ", "-") for heading in headings}
+
+
+def links_lack(tree):
+    """Links of the documents to a file or a heading that isn't there."""
+    for path in [*documents(tree.top), f"{tree.top}/CHANGELOG.md"]:
+        name = os.path.relpath(path, tree.top)
+        yield from (f"{name}: {one}" for one in page_misleads(tree, name, text_of(path)))
+
+
+def page_misleads(tree, name, page):
+    for link in dict.fromkeys(links_of(page)):
+        if re.match(r"[a-z]+:", link):
+            continue
+        file, _, anchor = link.partition("#")
+        path = os.path.normpath(os.path.join(os.path.dirname(name), file)) if file else name
+        if not os.path.exists(f"{tree.top}/{path}") and file:
+            yield f"there is no {link}"
+        elif anchor and path.endswith(".md") and anchor not in anchors_of(text_of(f"{tree.top}/{path}") if file else page):
+            yield f"{path} has no heading #{anchor}"
 
 
 # ---- rules that have one home
@@ -212,19 +266,28 @@ def above(uses, crate):
     return found - {crate}
 
 
+COUNT = r"\b(\d+) (?:other |further |more )?crates\b(?=(.{0,20}))"
+# `51 of 64`, if nothing is named that is counted: two numbers of at most three digits, and then the sentence ends or goes on with a verb.
+PART = r"(?<![\d,.])(\d{1,3}) of (?:the |its |all )?(\d{2,3})(?= crates\b| (?:are|is|stand|have|has|use|lie|above|below)\b|[),.;:|]|$)"
+
+
 def counts_differ(tree, boxes):
     """Counts of crates that aren't those of crates.txt."""
     for path in documents(tree.top):
-        for told, what, crates in counts_in(text_of(path)):
-            wanted = counts_of(tree.uses, boxes, what, crates)
-            if told not in wanted:
-                yield f"{os.path.relpath(path, tree.top)}: {told} crates{what}, and there are {' or '.join(map(str, sorted(wanted)))}"
+        yield from (f"{os.path.relpath(path, tree.top)}: {one}" for one in page_miscounts(tree, boxes, text_of(path)))
 
 
-def counts_in(page):
-    """Each count of crates: the number, what stands after it, and the crates of its line."""
+def page_miscounts(tree, boxes, page):
     for line, crates in lines_of(page):
-        yield from ((int(told), what, crates) for told, what in re.findall(r"\b(\d+) crates\b(?=(.{0,20}))", line))
+        for told, what in re.findall(COUNT, line):
+            wanted = counts_of(tree.uses, boxes, what, crates)
+            if int(told) not in wanted:
+                is_above = what.startswith(" above")
+                told += f" crates{what if is_above else ''}"
+                yield f"{told}, and there are {' or '.join(map(str, sorted(wanted))) if is_above else all_counts(tree.uses, boxes)}"
+        for some, whole in re.findall(PART, line):
+            if int(whole) not in counts_of(tree.uses, boxes, "", crates) or int(some) not in parts_of(tree.uses, boxes, crates):
+                yield f"{some} of {whole}, and of crates there are {all_counts(tree.uses, boxes)}"
 
 
 def counts_of(uses, boxes, what, crates):
@@ -234,6 +297,16 @@ def counts_of(uses, boxes, what, crates):
     if what.startswith(" of the program"):
         return {sum(not name.startswith("lab_tests_") for name in uses)}
     return {len(uses), *(len(crates) for _, crates in boxes)}
+
+
+def parts_of(uses, boxes, crates):
+    """How many of all crates a line may speak of: a box's, or those above a crate that it names, without that crate or with it."""
+    found = [len(above(uses, crate)) for crate in crates if crate in uses]
+    return {*found, *(count + 1 for count in found), *(len(crates) for _, crates in boxes)}
+
+
+def all_counts(uses, boxes):
+    return " or ".join(map(str, sorted(counts_of(uses, boxes, "", []))))
 
 
 def shown(box):
