@@ -1,5 +1,5 @@
 #!/usr/bin/env bash
-# A look at the main job of labdesk, in three to five minutes, with the Rattle kit and nothing else: two persons sign a result, one's own
+# A look at the main job of labdesk, in two to five minutes, with the Rattle kit and nothing else: two persons sign a result, one's own
 # work is refused, the version is released, and a copy of it is checked.
 #
 #     examples/look.sh
