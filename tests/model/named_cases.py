@@ -658,7 +658,7 @@ def a_record_has_ninety_nine_versions(s):
     s.get(1402, "dan", "/records/1", wants={"current": 99})
 
 
-# ---- the rules of each command, in the order in which they are looked at (docs/RECORDS.md)
+# ---- the rules of each command, in the order in which they are looked at (docs/COMMANDS.md)
 
 
 def any_of(s, moment, who, place, members, wants):

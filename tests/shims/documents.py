@@ -242,6 +242,7 @@ HOMES = {
     "how long a session lives": (r"\b900 s(econds)?\b|\b28,800\b|\b15 minutes\b|\b(8|eight) hours\b", "docs/PERSONS.md"),
     "why `storage` is answered over a file": (r"`HasItsCause`: ", "crates/lab_store_read/README.md"),
     "the order of all refusals": (r"^\| Step \| Number \|.*Skipped for", "docs/COMMANDS.md"),
+    "the order of a founding's refusals": (r"refused, in this order|first in this order is returned: `", "docs/LABORATORY.md"),
     "the cause of `storage`": (r"^\| 63 \|", "docs/REFUSALS.md"),
     "the cause of `memory`": (r"^\| 90 \|", "docs/REFUSALS.md"),
 }
