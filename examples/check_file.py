@@ -35,7 +35,7 @@ import sqlite3
 import sys
 import urllib.parse
 
-# Each table, as docs/TABLES.md has it, behind its id: ! is NOT NULL, and > an arrow.
+# Each table, as docs/TABLES.md has it, without its id: ! is NOT NULL, and > an arrow.
 TABLES = {
     "desk": "schema INTEGER!",
     "labs": "code TEXT! UNIQUE, name TEXT!, last INTEGER!, stray INTEGER!, records INTEGER!, sessions INTEGER!, trail INTEGER!",

@@ -234,7 +234,7 @@ class Client:
             first += PAGE
 
     def last_number(self, place):
-        """The last number of a list, and 0 where it is empty."""
+        """The last number of a list, and 0 if it is empty."""
         return last_that(lambda number: self.read("GET", f"{place}?from={number}&to={number}")[place[1:]])
 
     def form(self, code, version):

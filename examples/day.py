@@ -70,7 +70,7 @@ def members_of(command, args):
 
 
 def request_of(lab, command, args, token):
-    """The bytes of the request by which a command is asked for."""
+    """The bytes of the request for a command."""
     if command in READ:
         method, place, content = "GET", READ[command].format(*args), None
     else:
@@ -193,7 +193,7 @@ def founding(day):
 
 
 def enrolment(day):
-    # Two administrators come in. A session of one laboratory is none of another.
+    # Two administrators come in. A session of one laboratory isn't valid in another.
     day.ask("07:10", "aqua", "ann", "open", "ann", password_of("ann"))
     day.ask("07:10", "aqua", "bob", "open", "bob", "not the right password", refused=20)
     day.ask("07:11", "aqua", "bob", "open", "bob", password_of("bob"))

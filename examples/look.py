@@ -7,10 +7,10 @@
     examples/look.py --play PROGRAM     the same over this program
 
 To play it, a file of the laboratory is made, and `labdesk serve` answers over it: the day's requests go to its port, one after the
-other. The model is tests/model/laboratory.py, which is no part of the program. It is given the moment that a reply is dated, and the
-token of an opening; all else of each reply has to be, byte for byte, what the model replies then. The moment has to be that of the
+other. The model is tests/model/laboratory.py, which isn't part of the program. It gets the moment that a reply is dated, and the token
+of an opening; everything else of each reply has to be, byte for byte, what the model replies. The moment has to be that of the
 request, too. `labdesk check` then reads the copy that the server gave, and the same copy with one figure changed, and has to print what
-examples/check_copy.py prints of them. Where something differs, the status is 1.
+examples/check_copy.py prints of them. If something differs, the status is 1.
 
 The file is the model's: nobody founds the laboratory by the program here. Its three verifiers have 10,000 rounds of PBKDF2, as in a
 file that was moved from an older program, and not today's 100,000. A program that is built to be tried takes some five seconds for
@@ -234,7 +234,7 @@ class Server:
         """Is called while there is no server."""
 
     def note_reply(self):
-        """Is called behind each reply."""
+        """Is called after each reply."""
 
     def output(self):
         with contextlib.suppress(FileNotFoundError), open(f"{self.room}/said", errors="replace") as file:

@@ -3,10 +3,10 @@
 
     show_copy.py COPY > copy.html
 
-Each text stands there as it is in the copy: nothing is computed, rounded or run. A character that can't be seen, or that turns the order
-of others, has its code before it, as [U+202E], and no text turns the order of what stands around it. A value that another one replaced is
-struck out, and says by which version. What the page begins with is what check_copy.py, which lies beside this script, prints of the copy:
-its verdict, and its remarks, if it has any.
+The page shows each text as it is in the copy: nothing is computed, rounded or run. A character that is invisible, or that changes the order
+of others, has its code before it, as [U+202E], and no text changes the order of the text around it. A value that another one replaced is
+crossed out, with the version that replaced it. The page begins with the verdict of check_copy.py, which lies beside this script, and with
+its remarks, if there are any.
 """
 import csv
 import html
