@@ -336,6 +336,17 @@ def boxes_told_otherwise(tree, boxes):
             yield f"docs/ARCHITECTURE.md: {shown(box)} stands on {there[shown(box)]}, and by crates.txt on {', '.join(map(shown, sorted(wanted))) or 'no box'}"
 
 
+def crates_told_otherwise(tree, boxes):
+    """Tables of a box's crates, in the README of its door or of tests/, that don't have each crate once."""
+    for box, crates in boxes:
+        name = f"crates/{box}/README.md" if box in tree.uses else f"{shown(box)}/README.md"
+        table = re.search(r"^\| Crate \|.*\n\|.*\n((?:\|.*\n)+)", text_of(f"{tree.top}/{name}"), re.M)
+        told = [one for row in (table[1].splitlines() if table else []) for one in re.findall(r"[\[`](lab_\w+)[\]`]", row.split("|")[1])]
+        yield from (f"{name}: its table lacks {one}" for one in crates if one not in told)
+        yield from (f"{name}: its table has {one}, which isn't of the box" for one in dict.fromkeys(told) if one not in crates)
+        yield from (f"{name}: its table has {one} twice" for one in dict.fromkeys(told) if told.count(one) > 1)
+
+
 def boxes_of(text, below):
     """The boxes that a cell says: by their names, as `forms to store`, or as `all but seal`."""
     if text == "no box":
