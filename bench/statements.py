@@ -7,7 +7,7 @@
 `labdesk` has a store of its own, in which nothing can be recorded from outside. So the lists were read off its sources, on 2026-11-27:
 what is loaded before anything is decided off crates/lab_store_load and the crates of readers below it, what is changed off
 crates/lab_store and lab_store_write_changes, and which changes a command makes off crates/lab_records_commands and
-lab_records_outcomes. They stay as they are where the program learns to ask for less, so that its figures can be held against those of
+lab_records_laws. They stay as they are where the program learns to ask for less, so that its figures can be held against those of
 before. bench/beside.py compares the rows of both files afterwards: what is written is written by both.
 """
 import hashlib

@@ -6,7 +6,7 @@ use Rattle.std.proofs.KnownBytes.{Appends-trans}
 use Rattle.lab_wire_heads.specs.declared.refusals.HeadRefusal.{HeadRefusal}
 use Rattle.lab_wire_heads.specs.declared.refusals.HeadRefusal.TheVariants.{BadHead}
 use Rattle.lab_wire_heads.specs.declared.refusals.HeadFault.TheVariants.{Refused as RefusedHead}
-use Rattle.lab_wire_received.specs.Receptions.{IsReception}
+use Rattle.lab_wire_heads.specs.Receiving.{IsReception}
 use Rattle.lab_wire.specs.Commands.{command_asked}
 use Rattle.lab_wire.specs.declared.refusals.RequestRefusal.TheVariants.{Head}
 use Rattle.lab_wire.specs.Asked.{asked, of_request}

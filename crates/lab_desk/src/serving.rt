@@ -3,7 +3,7 @@
 
 ghost use Rattle.std.specs.Prelude.{◌≡◌, ◌≤◌, ◌+◌, IfSome, OnErr};
 ghost use Rattle.lab_wire_heads.specs.Interims.{interim_text};
-ghost use Rattle.lab_wire_received.specs.Receptions.{most_asks};
+ghost use Rattle.lab_wire_heads.specs.Receiving.{most_asks};
 ghost use Rattle.lab_desk.specs.Serving.{OnUnhandled, GreetsBy, Serves, WritesReply};
 
 use crate::desk::Desk;
@@ -12,8 +12,7 @@ use lab_forms_streams::{ByteSource, write_whole};
 use lab_forms_texts::Tick;
 use lab_records_keeper::Keeper;
 use lab_wire::RequestRefusal;
-use lab_wire_heads::HeadFault;
-use lab_wire_received::read_request;
+use lab_wire_heads::{HeadFault, read_request};
 use std::io::Write;
 
 impl<S: Keeper + Drop> Desk<S> {

@@ -17,7 +17,7 @@ use Rattle.lab_records_machine.specs.declared.commands.Instruction.{Instruction}
 use Rattle.lab_records_machine.specs.Machine.{step}
 use Rattle.lab_records_machine.specs.Needs.{need_of}
 use Rattle.lab_records_laws.specs.Asking.{IsCommandFormed}
-use Rattle.lab_records_outcomes.specs.Deciding.{decided}
+use Rattle.lab_records_laws.specs.Deciding.{decided}
 use Rattle.lab_records_copy_out.specs.Legible.{IsLegibleChange}
 use Rattle.lab_records_laws.proofs.Passing.{decided_is}
 use Rattle.lab_wire.specs.declared.replies.Answer.TheVariants.{Replied}

@@ -9,5 +9,6 @@ pub mod Copying
 pub mod Running
 pub mod Leaving
 pub mod Starting
+mod KnownCauses
 mod KnownValues
 pub mod Deciding

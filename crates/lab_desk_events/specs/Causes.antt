@@ -9,10 +9,10 @@ use Rattle.lab_records_kept.specs.Births.{newborn_lab}
 use Rattle.lab_records_kept.specs.Parts.{part_of}
 use Rattle.lab_records_keeper.specs.declared.faults.BadStore.{BadStore}
 use Rattle.lab_records_keeper.specs.declared.keeper.Keeper.{Ghosts}
-use Rattle.lab_records_keeper.specs.Worlds.{Given}
+use Rattle.lab_records_keeper.specs.Worlds.{Given, Passes}
 use Rattle.lab_records_keeper.specs.Calls.{Loads}
 use Rattle.lab_records_machine.specs.Needs.{need_of}
-use Rattle.lab_records_outcomes.specs.Deciding.{decided}
+use Rattle.lab_records_laws.specs.Deciding.{decided}
 use Rattle.lab_wire.specs.declared.commands.Asked.{Asked}
 use Rattle.lab_desk_foundings.specs.Foundings.{Body, IsNewborn}
 
@@ -28,6 +28,8 @@ module _ {S : Type 0} (keeper : Ghosts S) (old new : S) (tick : Tick) where
     pub loads : Loads (keeper.world old) (keeper.world mid) (keeper.rests old mid) (loaded slice)
     pub part : Given (keeper.world old) (keeper.world mid) (Some slice
         ≡ part_of (need_of tick asked.instruction) ((keeper.world old).meaning asked.lab))
+    -- an honest end makes the state between honest
+    pub passes : Passes (keeper.world mid) (keeper.world new)
     pub refused : keeper.refuses_changes mid new asked.lab
         (decided slice tick asked.instruction.command).changes
 

@@ -12,7 +12,7 @@ use Rattle.lab_records_keeper.specs.Worlds.{World, Meaning, CommitsAs, IsDurable
 use Rattle.lab_records_machine.specs.declared.commands.Instruction.{Instruction}
 use Rattle.lab_records_machine.specs.Machine.{step}
 use Rattle.lab_records_machine.specs.Needs.{need_of}
-use Rattle.lab_records_outcomes.specs.Deciding.{decided}
+use Rattle.lab_records_laws.specs.Deciding.{decided}
 use Rattle.lab_wire.specs.declared.commands.Asked.{Asked}
 use Rattle.lab_wire.specs.declared.refusals.RequestRefusal.{RequestRefusal}
 use Rattle.lab_wire.specs.declared.replies.Answer.{Answer}

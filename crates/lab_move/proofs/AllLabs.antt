@@ -6,8 +6,8 @@ use Rattle.sqlite.specs.State.{State, HasCleanDisk}
 use Rattle.lab_store_tables.specs.Rows.{Tables}
 use Rattle.lab_move_tables.specs.Reading.{ReadsAs}
 use Rattle.lab_move_tables.proofs.OldReaders.{may_then, stands_since}
-use Rattle.lab_move_files.specs.Commits.{MakesAtOnce}
-use Rattle.lab_move_files.specs.Unfinished.{Finishes}
+use Rattle.lab_move_write.specs.Commits.{MakesAtOnce}
+use Rattle.lab_move_write.specs.Unfinished.{Finishes}
 use Rattle.lab_move_read.specs.Laboratories.{codes_of}
 use Rattle.lab_move.specs.declared.faults.MoveFault.{MoveFault}
 use Rattle.lab_move.specs.Moving.{AreCounted, BlamesFirst, BlamesFirstOfAll, Fills, FillsAll, HasThese, IsFirstUnsound, IsSoundIn, IsWhole, IsWholeOf}
@@ -62,9 +62,3 @@ module _ {Stands : Database → Tables → Type 0} {E : Type 0} (codes : List (L
         let late = clean so.1 in
         let here : IsFirstUnsound t codes one = first t (stands_since Stands (read.shows late) t so.0, so.1) in
         subst (λ l. IsFirstUnsound t l one) (read.answer t so.0 late) here) it
-
--- after a call that read nothing of the tables
-pub read_on : {Stands : Database → Tables → Type 0} {A B E F : Type 0} {Is : Tables → B → Type 0} {old mid new : State} {a : A} {r : Result B F}
-    → ReadsAs Stands {E = E} (λ t x. Unit {0}) old mid (Ok a) → ReadsAs Stands Is mid new r
-    → ReadsAs Stands Is old new r
-read_on p q = may_then p q (λ t file it b is. is)

@@ -7,9 +7,9 @@ use Rattle.lab_store_tables.specs.Rows.{Tables}
 use Rattle.lab_store_tables.specs.Held.{IsTyped}
 use Rattle.lab_store_tables.specs.Ready.{IsAtRest, IsMadeBy, tables_of}
 use Rattle.lab_move_tables.specs.Reading.{ReadsAs}
-use Rattle.lab_move_laws.specs.Namings.{NamesSchema}
-use Rattle.lab_move_files.specs.Commits.{MakesAtOnce}
-use Rattle.lab_move_files.specs.Unfinished.{Begins, Finishes, IsBeingFilled}
+use Rattle.lab_move_write.specs.Namings.{NamesSchema}
+use Rattle.lab_move_write.specs.Commits.{MakesAtOnce}
+use Rattle.lab_move_write.specs.Unfinished.{Begins, Finishes, IsBeingFilled}
 use Rattle.lab_store_files.specs.NewFiles.{IsBlank}
 use Rattle.lab_move.specs.Counting.{AreAlike, AreCounts, HasAsMany, counts_row}
 use Rattle.lab_move.specs.Moving.{Fills, HasThese, IsBegun}

@@ -9,8 +9,8 @@ use Rattle.lab_store_tables.specs.Rows.{Tables}
 use Rattle.lab_store_tables.specs.Ready.{IsAtRest}
 use Rattle.lab_move_tables.specs.Reading.{ReadsAs}
 use Rattle.lab_move_tables.proofs.OldReaders.{none_read, may_both, may_and, stands_since}
-use Rattle.lab_move_files.specs.Commits.{MakesAtOnce}
-use Rattle.lab_move_files.proofs.Commits.{told_ok}
+use Rattle.lab_move_write.specs.Commits.{MakesAtOnce}
+use Rattle.lab_move_write.proofs.Commits.{told_ok}
 use Rattle.lab_move.specs.declared.faults.MoveFault.{MoveFault}
 use Rattle.lab_move.specs.Moving.{Blames, CarriesFrom, Fills, HasThese, IsBegun, IsFirstUnsound, ReadsOldAs, IsSoundIn, IsUnsoundIn}
 use Rattle.lab_move.proofs.FilledFiles.{none_carried, one_carried}

@@ -13,9 +13,9 @@ use Rattle.lab_store_tables.specs.Meaning.{meaning}
 use Rattle.lab_store_tables.specs.Rows.{Tables}
 use Rattle.lab_store_tables.specs.Ready.{IsAtRest, tables_of}
 use Rattle.lab_store_files.specs.NewFiles.{IsBlank}
-use Rattle.lab_move_files.specs.Commits.{MakesAtOnce}
-use Rattle.lab_move_files.specs.Unfinished.{Begins, IsBeingFilled}
-use Rattle.lab_move_files.proofs.Refusals.{unnamed_refused, blank_refused}
+use Rattle.lab_move_write.specs.Commits.{MakesAtOnce}
+use Rattle.lab_move_write.specs.Unfinished.{Begins, IsBeingFilled}
+use Rattle.lab_move_write.proofs.Refusals.{unnamed_refused, blank_refused}
 use Rattle.lab_move.specs.OldFiles.{StandsFor}
 use Rattle.lab_move.specs.Moving.{IsBegun, FillsAll, IsNoInstallation, IsSoundLab, IsStart, IsWhole, Lasts, LeavesUnfinished}
 use Rattle.lab_move.proofs.FilledFiles.{all_weaker, carried_from}

@@ -9,7 +9,7 @@ use Rattle.lab_store_tables.specs.Rows.{Tables, tables_in}
 use Rattle.lab_store_tables.specs.Meaning.{meaning}
 use Rattle.lab_move_tables.specs.Reading.{ReadsAs}
 use Rattle.lab_move_tables.proofs.OldReaders.{stands_since}
-use Rattle.lab_move_files.specs.Unfinished.{Finishes}
+use Rattle.lab_move_write.specs.Unfinished.{Finishes}
 use Rattle.lab_move_read.specs.Laboratories.{codes_of, IsLabOf}
 use Rattle.lab_move.specs.Moving.{IsSoundLab, AreAll, ReadsOldAs, IsBegun, HasCarried, HasThese, IsWholeOf, IsWhole, CarriesFrom, meaning_among}
 use Rattle.lab_move.proofs.Codes.{all_among, lab_means, among_more}

@@ -1,32 +1,30 @@
 -- Small instances of the definitions of a move, so that none is empty: where it stops, how it ends, what lasts, and why it tells of
 -- the store; and a body that always tells of the store has no cause for it.
-use Rattle.std.proofs.Common.{◌≡◌, inl, inr, ℕ, ◌-◌, ◌<◌, ◌^◌, pos, true, false, List, [], ◌∷◌, map, None, Ok, Err, IsTrue, refl, sym, ap, subst, ◌∙◌, arith, find}
-use Rattle.std.specs.Prelude.{codes, option_map}
+use Rattle.std.proofs.Common.{◌≡◌, inl, inr, ℕ, ◌-◌, ◌<◌, ◌^◌, pos, true, false, List, [], ◌∷◌, map, None, Ok, Err, IsTrue, refl, sym, ap, subst, ◌∙◌, arith}
+use Rattle.std.specs.Prelude.{codes}
 use Rattle.std.proofs.lemmas.List.Elements.{All-nil}
 use Rattle.sqlite_trees.specs.declared.store.Store.{Ghosts}
 use Rattle.sqlite_schema.specs.declared.schema.Schema.{Schema}
-use Rattle.sqlite_schema.specs.declared.schema.Table.{Table}
 use Rattle.sqlite.specs.Effect.{Database}
 use Rattle.sqlite.specs.Held.{Held, state}
 use Rattle.sqlite.specs.State.{State, HasCleanDisk}
 use Rattle.lab_store_tables.specs.Schema.{lab_schema}
 use Rattle.lab_store_tables.specs.Family.{Name, Desk, empty_tables, id_of, rows, tables_in}
-use Rattle.lab_store_tables.specs.Held.{IsTyped}
-use Rattle.lab_store_tables.specs.Meaning.{has_code, lab_in, meaning}
+use Rattle.lab_store_tables.specs.Meaning.{meaning}
 use Rattle.lab_store_tables.specs.Ready.{IsKept}
-use Rattle.lab_store_tables.specs.Rows.{LabRow, Tables}
+use Rattle.lab_store_tables.specs.Rows.{Tables}
 use Rattle.lab_store_tables.proofs.FamilyWords.{stored_row, tree_of, trees_of}
 use Rattle.lab_store_tables.proofs.KnownFile.{desk}
 use Rattle.lab_store_tables.proofs.Tests.{are_rising, kept_by_tests, keyed_from_test}
 use Rattle.lab_store_read.specs.Causes.{IsCaused}
-use Rattle.lab_store_files.specs.declared.faults.FileFault.TheVariants.{NotADeskFile, Storage}
+use Rattle.lab_store_files.specs.declared.faults.FileFault.TheVariants.{NotADeskFile}
 use Rattle.lab_store_files.specs.NewFiles.{IsBlank, no_schema}
 use Rattle.lab_store_files.specs.Schemas.{has_number, is_taken}
 use Rattle.lab_move_tables.specs.declared.older.Older.TheVariants.{Two}
 use Rattle.lab_move_tables.proofs.KnownOldFile.{lifted}
 use Rattle.lab_move_read.specs.Laboratories.{codes_of}
 use Rattle.lab_move.specs.declared.faults.MoveFault.TheVariants.{File, NotSound}
-use Rattle.lab_move.specs.Causes.{IsMoveCaused, RefusesNumber}
+use Rattle.lab_move.specs.Causes.{IsMoveCaused, IsUnasked}
 use Rattle.lab_move.specs.Moving.{AreCounted, IsFirstUnsound, IsSoundIn, Lasts}
 use Rattle.lab_move.specs.OldFiles.{StandsFor}
 use Rattle.lab_move.specs.Owed.{AnswersOldOwed, MovesAsOwed, StopsAt}
@@ -109,28 +107,21 @@ known_lost before after new it = it.stays
 -- ---- why a move tells of the store
 
 module _ {S : Type 0} (g : Ghosts S) (held : Held S) (before : State) where
-  -- a connection to the old file that was shut, or one to the new file, is told of
-  pub known_shut : before.is_open ≡ false → IsMoveCaused g before before held held
-  known_shut shut = inl (inl (inl (inr (inl shut))))
+  -- a connection that was shut is told of, to the old file as it is opened, to the new one as it is filled
+  pub known_shut : before.is_open ≡ false → IsUnasked before before
+  known_shut shut = inl (inr (inl shut))
 
-  pub known_new_shut : (state g held).is_open ≡ false → IsMoveCaused g before before held held
-  known_new_shut shut = inl (inr (inl (inr (inl shut))))
+  pub known_new_shut : (state g held).is_open ≡ false → IsMoveCaused (λ (_ : Unit {0}). before) g tt tt held held
+  known_new_shut shut = inl (inl (inr (inl shut)))
 
-  -- an empty new file that stays as it was isn't, where both connections are open and have no limit, their disks had no fault, no
-  -- transaction was undone, and the old file took the question
-  pub known_uncaused : IsTrue before.is_open → before.step_limit ≡ None → before.faults < 2 ^ 64 - 1 → (RefusesNumber before before → ⊥)
-      → IsBlank (state g held).now → HasCleanDisk (state g held) → IsTrue (state g held).is_open → (state g held).step_limit ≡ None → (state g held).faults < 2 ^ 64 - 1
-      → ((state g held).marks ≡ [] → ⊥) → ¬ IsMoveCaused g before before held held
-  known_uncaused open_old limit_old few_old taken blank clean opened limit few marked told = elim told [
-    | inl stopped ↦ elim stopped [
-      | inl unasked ↦ elim unasked [
-        | inl caused ↦ uncaused before open_old limit_old few_old caused
-        | inr refused ↦ taken refused
-      ]
-      | inr unmade ↦ elim unmade [
-        | inl caused ↦ uncaused (state g held) opened limit few caused
-        | inr inside ↦ marked inside.undone.unmarked
-      ]
+  -- an empty new file that stays as it was isn't, where its connection is open and has no limit, its disk had no fault, and no transaction
+  -- was undone
+  pub known_uncaused : IsBlank (state g held).now → HasCleanDisk (state g held) → IsTrue (state g held).is_open → (state g held).step_limit ≡ None
+      → (state g held).faults < 2 ^ 64 - 1 → ((state g held).marks ≡ [] → ⊥) → ¬ IsMoveCaused (λ (_ : Unit {0}). before) g tt tt held held
+  known_uncaused blank clean opened limit few marked told = elim told [
+    | inl unmade ↦ elim unmade [
+      | inl caused ↦ uncaused (state g held) opened limit few caused
+      | inr inside ↦ marked inside.undone.unmarked
     ]
     | inr way ↦ (let is = (way.filling blank clean opened).typed.schema in unlike (sym blank ∙ is))
   ]

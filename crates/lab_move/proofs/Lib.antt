@@ -8,6 +8,7 @@ pub mod FilledFiles
 pub mod Ends
 pub mod OneLab
 pub mod EachLab
+pub mod RefusedLabs
 pub mod AllLabs
 pub mod CountedFiles
 pub mod Causes

@@ -138,21 +138,16 @@ failed_moves before after fresh fault (inl e) = record { told = λ clean. inr (i
 failed_moves before after fresh fault (inr e) = record { told = λ clean. inr (inr (ap File e)); owed = λ clean due it. inr (inr (ap (λ one. Err (File one)) e)) }
 
 module _ (before after fresh : State) (older : Older) (answers : HasCleanDisk after → AnswersOldOwed before.now (Ok older)) where
-  pub made_moves : {Same : Type 0} (r : Answer) → IfErr r (λ fault. (fault ≡ NotEmpty) ⊎ IsOfStore fault) → (r ≡ Err NotEmpty → IsTrue (is_taken fresh.now.schema) × Same)
-      → IfErr r (λ fault. MovesAsOwed before after fresh {A = ℕ} (Err (File fault)))
-  made_moves (Ok one) of empty = tt
-  made_moves (Err fault) (inl e) empty =
+  pub made_moves : {A Same : Type 0} (fault : FileFault) → (fault ≡ NotEmpty) ⊎ IsOfStore fault
+      → (◌≡◌ {A = Result A FileFault} (Err fault) (Err NotEmpty) → IsTrue (is_taken fresh.now.schema) × Same) → MovesAsOwed before after fresh {A = ℕ} (Err (File fault))
+  made_moves fault (inl e) empty =
       subst (λ it. MovesAsOwed before after fresh {A = ℕ} (Err (File it))) (sym e) (taken_moves before after fresh older answers (empty (ap Err e)).0)
-  made_moves (Err fault) (inr e) empty = failed_moves before after fresh fault e
+  made_moves fault (inr e) empty = failed_moves before after fresh fault e
 
-  free_from : (b : Bool) (one : Older) → (IsTrue b → ◌≡◌ {A = Answer} (Ok one) (Err NotEmpty)) → b ≡ false
-  free_from true one taken = absurd (ok_err one NotEmpty (taken refl))
-  free_from false one taken = refl
-
-  pub made_free : (r : Answer) → IfOk r (λ one. one ≡ older) → (IsTrue (is_taken fresh.now.schema) → r ≡ Err NotEmpty)
-      → HasCleanDisk after → IfOk r (λ one. AnswersOldOwed before.now (Ok one) × (is_taken fresh.now.schema ≡ false))
-  made_free (Ok one) is taken clean = (subst (λ it. AnswersOldOwed before.now (Ok it)) (sym is) (answers clean), free_from (is_taken fresh.now.schema) one taken)
-  made_free (Err fault) is taken clean = tt
+-- the tables were made, so no table of such a name was there
+pub made_free : {A : Type 0} (taken : Bool) (made : A) → (IsTrue taken → ◌≡◌ {A = Result A FileFault} (Ok made) (Err NotEmpty)) → taken ≡ false
+made_free true made wrong = absurd (let never = wrong refl in cc)
+made_free false made wrong = refl
 
 -- ---- one that was begun
 

@@ -5,7 +5,8 @@ use Rattle.std.proofs.lemmas.Int.{ints}
 use Rattle.sqlite_value.specs.Order.{Row}
 use Rattle.sqlite_schema.specs.declared.schema.Schema.{Schema}
 use Rattle.sqlite.specs.Effect.{Database}
-use Rattle.sqlite.specs.State.{State, Shown}
+use Rattle.sqlite.specs.State.{State, HasCleanDisk, Shown}
+use Rattle.lab_store_tables.specs.Rows.{Tables}
 use Rattle.lab_store_files.specs.declared.faults.FileFault.{FileFault}
 use Rattle.lab_store_files.specs.declared.faults.FileFault.TheVariants.{NotADeskFile, SchemaOld, SchemaNew, Storage, NotEmpty, Memory}
 use Rattle.lab_store_files.specs.Faults.{FailedInStore}
@@ -14,11 +15,12 @@ use Rattle.lab_store_files.specs.Schemas.{has_number}
 use Rattle.lab_store_files.specs.Verdicts.{number_query, number_shown}
 use Rattle.lab_store_files.proofs.OwedLemmas.{due, due_is_owed, owed_is_due, shows_rows}
 use Rattle.lab_move_tables.specs.Olders.{number_of}
+use Rattle.lab_move_tables.specs.Standing.{StandsBy}
 use Rattle.lab_move_tables.specs.declared.older.Older.{Older}
 use Rattle.lab_move_tables.specs.declared.older.Older.TheVariants.{Two}
-use Rattle.lab_move.specs.OldFiles.{is_whole, older_of, whole_verdict, other_verdict, named_verdict, shown_verdict, old_verdict}
+use Rattle.lab_move.specs.OldFiles.{Names, StandsFor, is_whole, older_of, whole_verdict, other_verdict, named_verdict, shown_verdict, old_verdict}
 use Rattle.lab_move.specs.Owed.{IsOldOwed, AnswersOldOwed, has_tables}
-use Rattle.lab_move.proofs.OldVerdicts.{number_is}
+use Rattle.lab_move.proofs.OldVerdicts.{not_failed, number_is, stands_by}
 
 -- ---- with one older schema, a file owes what it owes where that is wanted
 
@@ -138,3 +140,20 @@ pub named_answered : (old new : State) (rows : List Row) (answer : Answer) → h
 named_answered old new rows answer named shown is =
     answered old.now answer (number_shown rows) (inr (named, rows, shows_rows old new rows shown, refl))
     (subst (IsOldOwed (has_tables old.now) (number_shown rows)) (sym is) (verdict_owed old.now.schema (number_shown rows))) (λ none. absurd cc)
+
+-- ---- of a file of an older schema
+
+-- the number that it shows is the schema's
+pub names_older : (db : Database) (older : Older) → AnswersOldOwed db (Ok older) → Names older db
+names_older db older answers = elim answers.told [ inl it ↦ go it.0 it.1 it.2.0 | inr failed ↦ absurd (not_failed older failed) ]
+  where
+    go : (number : Option ℤ) → HasNumber db number → number ≡ Some (pos (number_of older)) → Names older db
+    go number (inl unnamed) is = absurd (let none = unnamed.1 in cc)
+    go number (inr named) is =
+        let shows = named.2 in
+        (named.1, record { read = shows.read; is = shows.is; source = shows.source; from = shows.from; moment = shows.moment; shown = shows.shown }, sym named.3 ∙ is)
+
+-- so it stands for tables as one of this schema, while the disk is clean later
+pub stands_still : (before after : State) (older : Older) → (HasCleanDisk after → HasCleanDisk before) → (HasCleanDisk before → AnswersOldOwed before.now (Ok older))
+    → HasCleanDisk after → (t : Tables) → StandsFor before.now t → StandsBy older before.now t
+stands_still before after older early answers late = stands_by older before.now (names_older before.now older (answers (early late)))

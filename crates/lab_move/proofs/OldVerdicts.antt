@@ -49,7 +49,7 @@ use Rattle.lab_move.specs.Faults.{read_told, IsOfStore}
 use Rattle.lab_move_tables.specs.Standing.{StandsBy}
 use Rattle.lab_move.specs.declared.old_tables.OldTable.{OldTable}
 use Rattle.lab_move.specs.declared.old_tables.OldTable.TheVariants.{Desk, Labs, Persons, Sessions, Forms, Fields, Choices, Records, Versions, Entries, Signatures, Trail}
-use Rattle.lab_move.specs.OldFiles.{own_table, name_of, is_like, is_whole, is_old_desk, has_old_number, older_of, oldest, whole_verdict, named_verdict, shown_verdict, old_verdict, OldAnswers, IsNamedOldFile, Names, StandsFor}
+use Rattle.lab_move.specs.OldFiles.{own_table, name_of, is_like, is_whole, is_old_desk, has_old_number, older_of, oldest, whole_verdict, named_verdict, shown_verdict, old_verdict, IsNamedOldFile, Names, StandsFor}
 
 -- ---- what the question means
 
@@ -194,36 +194,9 @@ found_passes p (x ∷ xs) found h = go (p x) refl h (found_passes p xs found)
 pub number_is : (number : ℤ) (older : Older) → older_of number ≡ Some older → number ≡ pos (number_of older)
 number_is number older h = sym (same_int (pos (number_of older)) number (found_passes (has_old_number number) all_older older h))
 
-unnamed : (low old : Bool) (n : ℕ) (older : Older)
-    → ◌≢◌ {A = Result Older FileFault} (if low then Err NotADeskFile else (if old then Err (SchemaOld n) else Err (SchemaNew n))) (Ok older)
-unnamed true old n older e = cc
-unnamed false true n older e = cc
-unnamed false false n older e = cc
-
-taken_whole : (older other : Older) (whole : Bool) → whole_verdict other whole ≡ Ok older → other ≡ older
-taken_whole older other true h = cc
-taken_whole older other false h = absurd cc
-
-taken_as : (schema : Schema) (shown : Option ℤ) (older : Older) → shown_verdict schema shown ≡ Ok older → shown ≡ Some (pos (number_of older))
-taken_as schema None older h = absurd cc
-taken_as schema (Some number) older h = go (older_of number) refl h
-  where
-    go : (o : Option Older) → older_of number ≡ o → named_verdict schema number o ≡ Ok older → Some number ≡ Some (pos (number_of older))
-    go None e is = absurd (unnamed (int_lt number (pos 1)) (int_lt number (pos (number_of oldest))) (unsigned_abs number) older is)
-    go (Some other) e is = ap Some (number_is number older (e ∙ ap Some (taken_whole older other (is_whole other schema) is)))
-
-not_failed : (older : Older) → ¬ FailedInStore {A = Older} (Ok older)
+pub not_failed : (older : Older) → ¬ FailedInStore {A = Older} (Ok older)
 not_failed older (inl e) = cc
 not_failed older (inr e) = cc
-
-not_unnamed : (older : Older) → ◌≢◌ {A = Result Older FileFault} (Ok older) (Err NotADeskFile)
-not_unnamed older e = cc
-
--- its one number is that of the schema
-pub names_so : (old new : State) (older : Older) → OldAnswers old new (Ok older) → Names older old.now
-names_so old new older (inl (inl it)) = absurd (not_unnamed older it.1)
-names_so old new older (inl (inr it)) = (it.0, shows_of number_query desk_read [] old new it.0 it.1, taken_as old.now.schema (number_shown it.0) older (sym it.2))
-names_so old new older (inr failed) = absurd (not_failed older failed)
 
 -- so the tables for which it stands are those of this schema
 pub stands_by : (older : Older) (db : Database) → Names older db → (t : Tables) → StandsFor db t → StandsBy older db t

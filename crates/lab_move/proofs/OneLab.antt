@@ -8,8 +8,8 @@ use Rattle.lab_records_kept.specs.Dual.{IsDual}
 use Rattle.lab_store_tables.specs.Rows.{Tables}
 use Rattle.lab_move_tables.specs.Reading.{ReadsAs}
 use Rattle.lab_move_tables.proofs.OldReaders.{may_and}
-use Rattle.lab_move_files.specs.Commits.{MakesAtOnce}
-use Rattle.lab_move_files.proofs.Commits.{makes_weaker}
+use Rattle.lab_move_write.specs.Commits.{MakesAtOnce}
+use Rattle.lab_move_write.proofs.Commits.{makes_weaker}
 use Rattle.lab_move_write.specs.Carrying.{Carries}
 use Rattle.lab_move_read_people.specs.declared.faults.KeptFault.{KeptFault}
 use Rattle.lab_move_read_people.specs.declared.faults.KeptFault.TheVariants.{NotKept}

@@ -3,7 +3,7 @@ use Rattle.std.proofs.Common.{inl, inr, Ok, Err, Result, OnOk, OnErr, refl, sym,
 use Rattle.sqlite.specs.Effect.{Database}
 use Rattle.sqlite.specs.State.{State}
 use Rattle.lab_store_tables.specs.Ready.{IsAtRest}
-use Rattle.lab_move_files.specs.Commits.{MakesAtOnce}
+use Rattle.lab_move_write.specs.Commits.{MakesAtOnce}
 use Rattle.lab_move.specs.Moving.{MakesBySteps}
 
 on_ok : {A E P Q : Type 0} (r : Result A E) → (P → Q) → OnOk r P → OnOk r Q

@@ -1,33 +1,31 @@
 -- Why a move tells of the store: the old file wasn't asked, the tables weren't made, or the new file was being filled.
-use Rattle.std.proofs.Common.{◌≡◌, ◌⊎◌, inl, inr, [], false, true, Ok, Err, Result, OnErr, IfErr, IsFalse, IsTrue, refl, sym, ap, subst, ◌∙◌}
+use Rattle.std.proofs.Common.{◌≡◌, ℕ, List, inl, inr, [], false, Ok, Err, Result, IfErr, IsFalse, sym, ap, subst, ◌∙◌}
 use Rattle.std.proofs.lemmas.Bool.{cases_Bool}
-use Rattle.std.proofs.lemmas.Result.{IfErr-weaker}
 use Rattle.sqlite_trees.specs.declared.store.Store.{Ghosts}
 use Rattle.sqlite_trees.specs.declared.error.StoreError.{StoreError}
 use Rattle.sqlite_trees.specs.declared.error.StoreError.TheVariants.{OutOfMemory, Io, Corrupt, Full, Broken, Unstorable}
 use Rattle.sqlite.specs.declared.error.Error.{Error}
 use Rattle.sqlite.specs.Effect.{Database}
 use Rattle.sqlite.specs.Held.{Held, state}
-use Rattle.sqlite.specs.State.{State, Fails, FailsToQuery, HasCause, HasCleanDisk, IsNotRun, store_error}
+use Rattle.sqlite.specs.State.{State, FailsToQuery, HasCause, HasCleanDisk, IsNotRun, store_error}
 use Rattle.lab_forms_texts.specs.declared.refusals.Fault.{Fault}
 use Rattle.lab_records_keeper.specs.declared.faults.BadStore.{BadStore}
-use Rattle.lab_store_tables.specs.Ready.{WhereShown}
 use Rattle.lab_store_read.specs.Causes.{IsCaused}
 use Rattle.lab_store_read.specs.Faults.{is_out_of_memory, store_fault}
 use Rattle.lab_store_read.specs.Reads.{FailsToAsk}
 use Rattle.lab_store_files.specs.declared.faults.FileFault.{FileFault}
 use Rattle.lab_store_files.specs.declared.faults.FileFault.TheVariants.{Storage, Memory}
-use Rattle.lab_store_files.specs.NewFiles.{IsBlank}
 use Rattle.lab_store_files.specs.Schemas.{is_taken}
 use Rattle.lab_store_files.specs.Verdicts.{number_query}
 use Rattle.lab_move_tables.specs.declared.older.Older.{Older}
-use Rattle.lab_move_files.specs.Commits.{MakesAtOnce}
-use Rattle.lab_move_files.specs.Unfinished.{Begins, IsBeingFilled}
+use Rattle.lab_move_write.specs.Causes.{AreUnmade}
+use Rattle.lab_move_write.specs.Commits.{MakesAtOnce}
+use Rattle.lab_move_write.specs.Unfinished.{Begins, IsBeingFilled}
 use Rattle.lab_move.specs.declared.faults.MoveFault.{MoveFault}
 use Rattle.lab_move.specs.declared.faults.MoveFault.TheVariants.{File}
-use Rattle.lab_move.specs.Causes.{IsMoveCaused, IsStopped, IsUnasked, IsUnderWay}
+use Rattle.lab_move.specs.Causes.{IsFillingRefused, IsMoveCaused, IsUnasked, StopsAtEnd, StopsAtLab}
 use Rattle.lab_move.specs.Faults.{read_told}
-use Rattle.lab_move.specs.Moving.{FillsAll, IsWhole}
+use Rattle.lab_move.specs.Moving.{FillsAll, IsBegun}
 use Rattle.lab_move.specs.OldFiles.{Names}
 use Rattle.lab_move.proofs.CountedFiles.{begun_open}
 
@@ -60,21 +58,50 @@ unasked_so old new fault answer is fails told = unasked_by old new fails.0 (isnt
 -- ---- a move
 
 -- that was stopped before anything was made
-pub never_begun : {S : Type 0} (g : Ghosts S) (before after : State) (fresh new : Held S) (fault : FileFault) → (fault ≡ Storage → IsStopped g before after fresh new)
-    → File fault ≡ File Storage → IsMoveCaused g before after fresh new
-never_begun g before after fresh new fault why told = inl (why (let same : fault ≡ Storage = cc in same))
+pub never_begun : {D S : Type 0} (seen : D → State) (g : Ghosts S) (before after : D) (fresh new : Held S) (fault : FileFault) → (fault ≡ Storage → AreUnmade g fresh new)
+    → File fault ≡ File Storage → IsMoveCaused seen g before after fresh new
+never_begun seen g before after fresh new fault why told = inl (why (let same : fault ≡ Storage = cc in same))
+
+-- what is seen of a part is seen of the whole
+module _ {C D S : Type 0} (of : C → D) (seen : D → State) (g : Ghosts S) (older : Older) where
+  lab_of : (codes : List (List ℕ)) (before after : C) (fresh new : Held S) → StopsAtLab (λ (file : C). seen (of file)) g older codes before after fresh new
+      → StopsAtLab seen g older codes (of before) (of after) fresh new
+  lab_of codes before after fresh new it =
+      record { done = it.done; code = it.code; rest = it.rest; split = it.split; now = of it.now; last = it.last; placed = it.placed; why = it.why }
+
+  end_of : (codes : List (List ℕ)) (before after : C) (fresh new : Held S) → StopsAtEnd (λ (file : C). seen (of file)) g older codes before after fresh new
+      → StopsAtEnd seen g older codes (of before) (of after) fresh new
+  end_of codes before after fresh new it = record { now = of it.now; last = it.last; placed = it.placed; passes = it.passes }
+
+  filling_of : (before after : C) (fresh new : Held S) → IsFillingRefused (λ (file : C). seen (of file)) g older before after fresh new
+      → IsFillingRefused seen g older (of before) (of after) fresh new
+  filling_of before after fresh new (inl unread) = inl unread
+  filling_of before after fresh new (inr it) = inr (
+    it.0,
+    of it.1,
+    it.2,
+    elim it.3 [
+      | inl lab ↦ inl (lab_of it.0 it.1 after fresh new lab)
+      | inr end ↦ inr (end_of it.0 it.1 after fresh new end)
+    ],
+  )
 
 -- that was under way
-module _ {S A B E : Type 0} (g : Ghosts S) {a : A} {Made : Database → Type 0} (before after : State) (fresh mid new : Held S)
-    (p : MakesAtOnce (Begins (state g fresh).now) {E = E} (Ok a) (state g fresh) (state g mid)) (older : Older) (named : Names older before.now)
-    (free : is_taken (state g fresh).now.schema ≡ false) where
-  pub under_way : (r : Result B MoveFault) → FillsAll Made r (state g mid) (state g new) → IfErr r (λ fault. fault ≡ File Storage → IsMoveCaused g before after fresh new)
-  under_way (Ok b) q = tt
-  under_way (Err fault) q = λ told. inr (record {
+module _ {C D S B : Type 0} (before after : C) (of : C → D) (seen : D → State) (g : Ghosts S) {Made : Database → Type 0} (fresh mid new : Held S) (older : Older)
+    (p : MakesAtOnce (Begins (state g fresh).now) {A = Unit {0}} {E = FileFault} (Ok tt) (state g fresh) (state g mid)) (named : Names older (seen (of before)).now)
+    (free : is_taken (state g fresh).now.schema ≡ false) (late : HasCleanDisk (state g new)) where
+  pub under_way : (r : Result B MoveFault) → FillsAll Made r (state g mid) (state g new)
+      → (IsBegun (state g mid).now → IfErr r (λ fault. fault ≡ File Storage → IsFillingRefused (λ (file : C). seen (of file)) g older before after mid new))
+      → IfErr r (λ fault. fault ≡ File Storage → IsMoveCaused seen g (of before) (of after) fresh new)
+  under_way (Ok b) q why = tt
+  under_way (Err fault) q why = λ told. inr (record {
     older = older;
     named = named;
     free = free;
     filling = λ blank clean opened.
         let begun = (begun_open blank p (q.clean clean)).1 in
         elim (q.rows clean opened) [ inl same ↦ subst IsBeingFilled (sym same) begun.filling | inr filling ↦ filling begun ];
+    begun = mid;
+    made = p;
+    why = λ blank. filling_of of seen g older before after mid new (why (begun_open blank p (q.clean late)).1 told);
   })

@@ -4,4 +4,5 @@ pub mod OldFiles
 pub mod Counting
 pub mod Moving
 pub mod Owed
+pub mod Openings
 pub mod Causes

@@ -26,7 +26,7 @@ use Rattle.lab_store_files.specs.declared.faults.FileFault.TheVariants.{NotADesk
 use Rattle.lab_store_files.specs.Faults.{FailedInStore}
 use Rattle.lab_store_files.specs.Schemas.{is_taken}
 use Rattle.lab_store_files.specs.Verdicts.{AnswersVerdict}
-use Rattle.lab_move_files.specs.Unfinished.{IsBeingFilled}
+use Rattle.lab_move_write.specs.Unfinished.{IsBeingFilled}
 use Rattle.lab_move_write.specs.Carrying.{Carries}
 use Rattle.lab_move_read.specs.Laboratories.{codes_of, IsLabOf, IsUnkept}
 use Rattle.lab_move.specs.declared.faults.MoveFault.{MoveFault}

@@ -12,8 +12,7 @@ use thiserror::Error;
 /// Why a file was not moved. The old file is as it was. Its text is its word.
 #[derive(Debug, Drop, Error)]
 pub enum MoveFault {
-    /// The old file is none of an older schema, the new one isn't empty, one of the two refused, or memory
-    /// ran out.
+    /// The new file isn't empty, one of the two files refused, or memory ran out.
     File(FileFault),
     /// The rows of a laboratory of the old file aren't well kept, or it isn't bound or not under
     /// dual control.

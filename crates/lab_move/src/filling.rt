@@ -1,7 +1,7 @@
 //! The laboratories of an old file, carried into a new one, one after the other, and the new file
 //! finished.
 
-ghost use Rattle.std.specs.Prelude.{◌≡◌, length, All, OnOk, IfOk, IfErr, IsTrue, Some};
+ghost use Rattle.std.specs.Prelude.{◌≡◌, ◌⊎◌, length, All, OnOk, IfOk, IfErr, IsTrue, Some};
 ghost use Rattle.sqlite.specs.Held.{state};
 ghost use Rattle.lab_records_kept.specs.declared.labs.Lab.{Lab as AnyLab};
 ghost use Rattle.lab_records_kept.specs.Bound.{IsBound};
@@ -11,12 +11,16 @@ ghost use Rattle.lab_store_tables.specs.Ready.{IsAtRest, IsMadeBy, tables_of};
 ghost use Rattle.lab_store_tables.specs.Rows.{Tables};
 ghost use Rattle.lab_move_tables.specs.Reading.{ReadsBy, ReadsOld};
 ghost use Rattle.lab_move_tables.specs.Standing.{StandsBy};
-ghost use Rattle.lab_move_files.specs.Commits.{MakesAtOnce};
-ghost use Rattle.lab_move_files.specs.Unfinished.{Finishes, IsBeingFilled};
-ghost use Rattle.lab_move_laws.specs.Namings.{NamesSchema};
+ghost use Rattle.lab_move_write.specs.Commits.{MakesAtOnce};
+ghost use Rattle.lab_move_write.specs.Unfinished.{Finishes, IsBeingFilled};
+ghost use Rattle.lab_move_write.specs.Namings.{NamesSchema};
 ghost use Rattle.lab_move_write.specs.Carrying.{Carries};
-ghost use Rattle.lab_move_read_people.specs.declared.faults.KeptFault.TheVariants.{NotKept};
+ghost use Rattle.lab_move_read_people.specs.declared.faults.KeptFault.TheVariants.{NotKept, Storage as Unread};
 ghost use Rattle.lab_move_read.specs.Laboratories.{codes_of};
+ghost use Rattle.lab_store_files.specs.declared.faults.FileFault.TheVariants.{Storage};
+ghost use Rattle.lab_store_write.specs.Transactions.{HasOurTables};
+ghost use Rattle.lab_move.specs.Causes.{IsFillingRefused, IsRefusedLab, IsUnplaced, IsUnplacedOf, IsUnwritten, StopsAtEnd, StopsAtLab};
+ghost use Rattle.lab_move.specs.declared.faults.MoveFault.TheVariants.{File};
 ghost use Rattle.lab_move.specs.Counting.{HasAsMany};
 ghost use Rattle.lab_move.specs.Moving.{Blames, BlamesFirst, BlamesFirstOfAll, CarriesFrom, Fills, FillsAll, HasThese, AreCounted, IsBegun, ReadsOldAs, IsSoundIn, IsSoundLab, IsUnsoundIn, IsWhole, IsWholeOf};
 
@@ -24,10 +28,9 @@ use crate::counting::compare_counts;
 use crate::faults::{MoveFault, store_fault};
 use crate::testing::{not_sound, test_lab};
 use lab_forms_texts::LabCode;
-use lab_move_files::finish;
 use lab_move_read::{KeptFault, codes, whole};
 use lab_move_tables::Older;
-use lab_move_write::{MoveProgress, place_lab};
+use lab_move_write::{MoveProgress, finish, place_lab};
 use lab_records_kept::Lab;
 use lab_store_files::FileFault;
 use lab_store_read::Readable;
@@ -45,6 +48,9 @@ fn place_tried<T: Alter, P: MoveProgress>(
         (Carries lab.now (state T.Store new.old).now) result
         (state T.Store new.old) (state T.Store new.new) }
     ensures fault { IfErr result (Blames (λ _. ⊥)) }
+    ensures cause { HasOurTables (state T.Store new.old) → HasCleanDisk (state T.Store new.new) →
+        IfErr result (λ fault. fault ≡ File Storage →
+        IsUnwritten T.Store lab.now new.old new.new) }
 {
     match place_lab(new, lab, progress) {
         Ok(()) => Ok(()),
@@ -67,6 +73,9 @@ fn place_sound<T: Alter, P: MoveProgress>(
     ensures sound { OnOk result (IsSoundLab lab.now) }
     ensures fault { IfErr result
         (Blames (λ one. (one ≡ code.now) × ¬ (IsBound lab.now × IsDual lab.now))) }
+    ensures cause { HasOurTables (state T.Store new.old) → HasCleanDisk (state T.Store new.new) →
+        IfErr result (λ fault. fault ≡ File Storage →
+        IsUnplaced T.Store lab.now new.old new.new) }
 {
     match test_lab(alloc, code, lab) {
         Ok(()) => place_tried(new, lab, progress),
@@ -89,6 +98,9 @@ fn place_found<T: Alter, P: MoveProgress>(
     ensures sound { OnOk result ((lab : AnyLab) × (found ≡ Some lab) × IsSoundLab lab) }
     ensures fault { IfErr result (Blames (λ one. (one ≡ code.now)
         × (lab : AnyLab) × (found ≡ Some lab) × ¬ (IsBound lab × IsDual lab))) }
+    ensures cause { HasOurTables (state T.Store new.old) → HasCleanDisk (state T.Store new.new) →
+        IfErr result (λ fault. fault ≡ File Storage →
+        IsUnplacedOf T.Store found new.old new.new) }
 {
     match found {
         Some(lab) => place_sound(alloc, new, code, &lab, progress),
@@ -98,7 +110,8 @@ fn place_found<T: Alter, P: MoveProgress>(
 
 // Why a laboratory was not read.
 fn unread(code: &LabCode, fault: KeptFault) -> MoveFault
-    ensures { Blames (λ one. (one ≡ code.now) × (fault ≡ NotKept)) result }
+    ensures blames { Blames (λ one. (one ≡ code.now) × (fault ≡ NotKept)) result }
+    ensures told { result ≡ File Storage → fault ≡ Unread }
 {
     match fault {
         KeptFault::NotKept => not_sound(code),
@@ -124,6 +137,9 @@ fn move_lab<D: Readable, T: Alter, P: MoveProgress>(
     ensures fault { IfErr result (Blames (λ one. (one ≡ code.now)
         × ((t : Tables) → ReadsOldAs (StandsBy older) (D.state old.old) (D.state old.new) t →
         IsUnsoundIn t code.now))) }
+    ensures cause { HasCleanDisk (D.state old.new) → HasOurTables (state T.Store new.old) →
+        HasCleanDisk (state T.Store new.new) → IfErr result (λ fault. fault ≡ File Storage →
+        IsRefusedLab T.Store older code.now (D.state old.old) (D.state old.new) new.old new.new) }
 {
     match whole(alloc, old, older, code) {
         Ok(found) => place_found(alloc, new, code, found, progress),
@@ -147,6 +163,9 @@ fn move_each<D: Readable, T: Alter, P: MoveProgress>(
         codes.now) result (state T.Store new.old) (state T.Store new.new) }
     ensures fault { IfErr result (BlamesFirst (StandsBy older) (D.state old.old)
         (D.state old.new) codes.now) }
+    ensures cause { HasCleanDisk (D.state old.new) → IsBegun (state T.Store new.old).now →
+        HasCleanDisk (state T.Store new.new) → IfErr result (λ fault. fault ≡ File Storage →
+        StopsAtLab D.state T.Store older codes.now old.old old.new new.old new.new) }
 {
     for place in 0..codes.len() {
         let code = &codes[place];
@@ -212,6 +231,10 @@ fn move_all<D: Readable, T: Alter, P: MoveProgress>(
         OnOk result (HasAsMany (D.state old.old).now (tables_of (state T.Store new.new))) }
     ensures fault { IfErr result (BlamesFirst (StandsBy older) (D.state old.old)
         (D.state old.new) codes.now) }
+    ensures cause { HasCleanDisk (D.state old.new) → IsBegun (state T.Store new.old).now →
+        HasCleanDisk (state T.Store new.new) → IfErr result (λ fault. fault ≡ File Storage →
+        StopsAtLab D.state T.Store older codes.now old.old old.new new.old new.new
+        ⊎ StopsAtEnd D.state T.Store older codes.now old.old old.new new.old new.new) }
 {
     match move_each(alloc, old, older, new, codes, progress) {
         Ok(()) => finish_compared(old, new, codes),
@@ -242,6 +265,9 @@ pub(crate) fn fill<D: Readable, T: Alter, P: MoveProgress>(
         OnOk result (HasAsMany (D.state old.old).now (tables_of (state T.Store new.new))) }
     ensures fault { IfErr result (BlamesFirstOfAll (StandsBy older) (D.state old.old)
         (D.state old.new)) }
+    ensures cause { HasCleanDisk (D.state old.new) → IsBegun (state T.Store new.old).now →
+        HasCleanDisk (state T.Store new.new) → IfErr result (λ fault. fault ≡ File Storage →
+        IsFillingRefused D.state T.Store older old.old old.new new.old new.new) }
 {
     match codes(alloc, old) {
         Ok(codes) => move_all(alloc, old, older, new, codes.as_slice(), progress),

@@ -17,14 +17,12 @@ mod testing;
 
 pub use faults::MoveFault;
 pub use lab_forms_texts::{LabCode, OutOfMemory};
-pub use lab_move_checks::{is_sound, is_within};
-pub use lab_move_files::{Inside, finish, make_tables};
-pub use lab_move_tables::Older;
-pub use lab_move_write::{MoveProgress, Unwatched, place_lab};
+pub use lab_move_tables::{Older, is_sound, is_within};
+pub use lab_move_write::{Inside, MoveProgress, Unwatched, finish, make_tables, place_lab};
 pub use lab_records_kept::Lab;
 pub use lab_store_files::FileFault;
 pub use moving::{
-    a_named_file_stands, an_exact_file_is_named, an_unfinished_file_is_refused, migrate,
+    MoveEnd, a_named_file_stands, an_exact_file_is_named, an_unfinished_file_is_refused, migrate,
     one_refusal_is_owed, the_first_unsound_is_least,
 };
-pub use opening::{OldFile, one_old_answer_is_owed, open_old};
+pub use opening::{OldFile, Unopened, one_old_answer_is_owed, open_old};

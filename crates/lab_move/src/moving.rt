@@ -1,12 +1,12 @@
 //! A file of an older schema, moved.
 
-ghost use Rattle.std.specs.Prelude.{◌≡◌, ◌⊎◌, ℕ, ℤ, false, List, Option, Ok, Err, IfErr, IfOk, OnOk, IsTrue, Result};
+ghost use Rattle.std.specs.Prelude.{◌≡◌, ℕ, ℤ, List, Option, IfErr, IfOk, OnOk, IsTrue};
 ghost use Rattle.std.specs.List.{list_any};
 ghost use Rattle.sqlite.specs.Effect.{Database};
 ghost use Rattle.sqlite.specs.Held.{state};
 ghost use Rattle.sqlite.specs.State.{HasCleanDisk};
 ghost use Rattle.lab_store_tables.specs.Ready.{IsAtRest, tables_of};
-ghost use Rattle.lab_store_files.specs.declared.faults.FileFault.TheVariants.{Memory, NotEmpty, Storage};
+ghost use Rattle.lab_store_files.specs.declared.faults.FileFault.TheVariants.{Storage};
 ghost use Rattle.lab_store_files.specs.NewFiles.{IsBlank};
 ghost use Rattle.lab_store_files.specs.Owed.{Names as HasNumber};
 ghost use Rattle.lab_store_files.specs.Schemas.{is_taken};
@@ -18,26 +18,21 @@ ghost use Rattle.lab_move_tables.specs.Reading.{ReadsOld};
 ghost use Rattle.lab_move_tables.specs.Standing.{StandsBy};
 ghost use Rattle.lab_move_tables.specs.declared.older.Older.{Older as AnyOlder};
 ghost use Rattle.lab_move_tables.specs.declared.older.Older.TheVariants.{Two};
-ghost use Rattle.lab_move_files.specs.Causes.{MakingEndsForCause};
-ghost use Rattle.lab_move_files.specs.Commits.{MakesAtOnce};
-ghost use Rattle.lab_move_files.specs.Unfinished.{Begins, IsBeingFilled};
+ghost use Rattle.lab_move_write.specs.Unfinished.{IsBeingFilled};
 ghost use Rattle.lab_move_read.specs.Laboratories.{codes_of};
 ghost use Rattle.lab_move.specs.declared.faults.MoveFault.{MoveFault as AnyFault};
 ghost use Rattle.lab_move.specs.declared.faults.MoveFault.TheVariants.{File};
-ghost use Rattle.lab_move.specs.Causes.{IsMoveCaused, IsStopped};
+ghost use Rattle.lab_move.specs.Causes.{IsMoveCaused};
 ghost use Rattle.lab_move.specs.Counting.{HasAsMany};
 ghost use Rattle.lab_move.specs.Faults.{is_early};
 ghost use Rattle.lab_move.specs.Moving.{HasCause, IsFirstUnsound, IsMoved, IsNoInstallation, IsSoundIn, IsStart, Lasts, LeavesUnfinished};
-ghost use Rattle.lab_move.specs.OldFiles.{IsNamedOldFile, Names, StandsFor, is_old_desk};
-ghost use Rattle.lab_move.specs.Owed.{AnswersOldOwed, IsMoveOwed, MovesAsOwed, OpensOld, StopsAt, precedes};
+ghost use Rattle.lab_move.specs.OldFiles.{IsNamedOldFile, StandsFor, is_old_desk};
+ghost use Rattle.lab_move.specs.Owed.{IsMoveOwed, MovesAsOwed, OpensOld, StopsAt, precedes};
 
 use crate::faults::MoveFault;
 use crate::filling::fill;
-use crate::opening::{OldFile, open_old};
-use lab_move_files::make_tables;
-use lab_move_tables::Older;
-use lab_move_write::MoveProgress;
-use lab_store_files::FileFault;
+use crate::opening::OldFile;
+use lab_move_write::{MoveProgress, make_tables};
 use sqlite::{Alter, Connection};
 use std::alloc::Global;
 
@@ -84,126 +79,91 @@ pub fn one_refusal_is_owed()
         IsMoveOwed OpensOld (λ _ code. StopsAt t code) old fresh other → one ≡ other }
 {}
 
-// Makes the tables of the new file, for an old one of the schema.
-fn make_for<T: Alter>(older: Older, new: &mut Connection<T>) -> Result<Older, FileFault>
-    requires at_rest { IsAtRest (state T.Store new.old) }
-    ensures is { IfOk result (λ one. one ≡ older) }
-    ensures begun { MakesAtOnce (Begins (state T.Store new.old).now) result
-        (state T.Store new.old) (state T.Store new.new) }
-    ensures taken { IsTrue (is_taken (state T.Store new.old).now.schema) →
-        result ≡ Err NotEmpty }
-    ensures not_empty { result ≡ Err NotEmpty →
-        IsTrue (is_taken (state T.Store new.old).now.schema) × (new.new ≡ new.old) }
-    ensures fault { IfErr result
-        (λ fault. (fault ≡ NotEmpty) ⊎ ((fault ≡ Storage) ⊎ (fault ≡ Memory))) }
-    ensures cause { MakingEndsForCause T.Store (λ fault. fault ≡ Storage) new.old new.new result }
-{
-    match make_tables(new) {
-        Ok(()) => Ok(older),
-        Err(fault) => Err(fault),
-    }
+/// How a move ended, and the connection to the old file, which is left.
+#[derive(Drop)]
+pub struct MoveEnd<S: Alter> {
+    /// How many laboratories were moved, or why it stopped.
+    pub ending: Result<u64, MoveFault>,
+    /// The connection to the old file.
+    pub left: Connection<S>,
 }
 
-// Looks at the old file, and makes the tables of the new one.
-fn begin<S: Alter, T: Alter>(
-    old: &mut OldFile<S>,
-    new: &mut Connection<T>,
-) -> Result<Older, FileFault>
-    requires at_rest { IsAtRest (state T.Store new.old) }
-    ensures reads { ReadsOld (λ _ _. Unit {0})
-        (state S.Store old.old.conn) (state S.Store old.new.conn) result }
-    ensures older { HasCleanDisk (state S.Store old.new.conn) →
-        IfOk result (λ older. Names older (state S.Store old.old.conn).now) }
-    ensures begun { MakesAtOnce (Begins (state T.Store new.old).now) result
-        (state T.Store new.old) (state T.Store new.new) }
-    ensures cause { IfErr result (λ fault. HasCause (state S.Store old.old.conn)
-        (state S.Store old.new.conn) (state T.Store new.old) (File fault)) }
-    ensures opened { HasCleanDisk (state S.Store old.new.conn) → IfOk result (λ older.
-        AnswersOldOwed (state S.Store old.old.conn).now (Ok older)
-        × (is_taken (state T.Store new.old).now.schema ≡ false)) }
-    ensures owed { IfErr result (λ fault. MovesAsOwed (state S.Store old.old.conn)
-        (state S.Store old.new.conn) (state T.Store new.old) {A = ℕ} (Err (File fault))) }
-    ensures untouched { IfErr result (λ fault. IsTrue (is_early (File fault)) → new.new ≡ new.old) }
-    ensures taken { IsTrue (is_taken (state T.Store new.old).now.schema) →
-        OnOk result ⊥ × (new.new ≡ new.old) }
-    ensures stopped { HasCleanDisk (state S.Store old.new.conn) →
-        HasCleanDisk (state T.Store new.new) → IfErr result (λ fault. fault ≡ Storage →
-        IsStopped T.Store (state S.Store old.old.conn) (state S.Store old.new.conn)
-        new.old new.new) }
-{
-    match open_old(old) {
-        Ok(older) => make_for(older, new),
-        Err(fault) => Err(fault),
-    }
-}
-
-/// Moves an old file, which is one of an older schema, into a new one, which is empty: the tables are made
-/// first, by one commit, each laboratory is placed by one more, in the order of the codes' bytes,
-/// and the row that names the schema comes last, so that the new file is taken for none in which
-/// laboratories are kept until it is whole. Answers how many laboratories there are. Nothing is
-/// written to the old file.
+/// Moves an old file, which isn't asked again of which schema it is, into a new one, which is empty:
+/// the tables are made first, by one commit, each laboratory is placed by one more, in the order of
+/// the codes' bytes, and the row that names the schema comes last, so that the new file is taken for
+/// none in which laboratories are kept until it is whole. Answers how many laboratories there are.
+/// Nothing is written to the old file.
 ///
 /// # Errors
-/// The old file is none of an older schema, or of one before or after these; the new one has a table of
-/// a name that is wanted; the rows of a laboratory aren't well kept, or it isn't bound or not under
-/// dual control; the store refused, a row is none that is written, or belongs to no laboratory; or
-/// memory ran out.
+/// The new file has a table of a name that is wanted; the rows of a laboratory aren't well kept, or it
+/// isn't bound or not under dual control; the store refused, a row is none that is written, or belongs
+/// to no laboratory; or memory ran out.
 pub fn migrate<S: Alter, T: Alter, P: MoveProgress>(
     alloc: Global,
-    old: &mut OldFile<S>,
+    old: OldFile<S>,
     new: &mut Connection<T>,
     progress: &mut P,
-) -> Result<u64, MoveFault>
+) -> MoveEnd<S>
     requires at_rest { IsAtRest (state T.Store new.old) }
     // Where it answers a number, the old file has so many laboratories, and the new one has each as
     // the old one means it, and no other. So each version keeps its text, its digest and its
     // signatures. What the old file means, the tables mean for which it stands, however its own are
     // written:
     ensures moved { IsBlank (state T.Store new.old).now → HasCleanDisk (state T.Store new.new) →
-        (t : Tables) → StandsFor (state S.Store old.old.conn).now t →
-        HasCleanDisk (state S.Store old.new.conn) →
-        IfOk result (IsMoved t (tables_of (state T.Store new.new))) }
+        (t : Tables) → StandsFor (state S.Store old.conn).now t →
+        HasCleanDisk (state S.Store result.left) →
+        IfOk result.ending (IsMoved t (tables_of (state T.Store new.new))) }
     // No row is left behind, whoever wrote the old file and whatever its rows say: each of its tables
     // has as many as that of the new one:
     ensures counted { IsBlank (state T.Store new.old).now → HasCleanDisk (state T.Store new.new) →
-        HasCleanDisk (state S.Store old.new.conn) → OnOk result
-        (HasAsMany (state S.Store old.old.conn).now (tables_of (state T.Store new.new))) }
+        HasCleanDisk (state S.Store result.left) → OnOk result.ending
+        (HasAsMany (state S.Store old.conn).now (tables_of (state T.Store new.new))) }
     // The new file is then all that a start asks, whoever wrote the old one:
     ensures ready { IsBlank (state T.Store new.old).now → HasCleanDisk (state T.Store new.new) →
-        OnOk result (IsStart (state T.Store new.new)) }
+        OnOk result.ending (IsStart (state T.Store new.new)) }
     // A fault has this cause:
-    ensures refused { IfErr result (HasCause (state S.Store old.old.conn)
-        (state S.Store old.new.conn) (state T.Store new.old)) }
-    // Each refusal is told exactly where it is owed, unless a store failed: the old file's first,
-    // then the new one's, then that of the laboratory of the least code that isn't sound:
-    ensures owed { MovesAsOwed (state S.Store old.old.conn)
-        (state S.Store old.new.conn) (state T.Store new.old) result }
-    // The refusal of a store has its cause, or it came once the new file was being filled:
-    ensures cause { HasCleanDisk (state S.Store old.new.conn) →
-        HasCleanDisk (state T.Store new.new) → IfErr result (λ fault. fault ≡ File Storage →
-        IsMoveCaused T.Store (state S.Store old.old.conn) (state S.Store old.new.conn)
-        new.old new.new) }
+    ensures refused { IfErr result.ending (HasCause (state S.Store old.conn)
+        (state S.Store result.left) (state T.Store new.old)) }
+    // Each refusal is told exactly where it is owed, unless a store failed: the new file's first,
+    // then that of the laboratory of the least code that isn't sound. An old file that was opened
+    // owes none itself:
+    ensures owed { MovesAsOwed (state S.Store old.conn)
+        (state S.Store result.left) (state T.Store new.old) result.ending }
+    // The refusal of a store has its cause; where it came while an empty new file was being filled,
+    // what was placed before it and what was refused are named:
+    ensures cause { HasCleanDisk (state S.Store result.left) →
+        HasCleanDisk (state T.Store new.new) → IfErr result.ending (λ fault. fault ≡ File Storage →
+        IsMoveCaused (state S.Store) T.Store old.conn result.left new.old new.new) }
     // However it ends, the old rows are as they were, and a crash leaves no more of the old file
     // than before:
     ensures old_same { ReadsOld (λ _ _. Unit {0})
-        (state S.Store old.old.conn) (state S.Store old.new.conn) result }
+        (state S.Store old.conn) (state S.Store result.left) result.ending }
     // However it ends, what is left of a new file that was empty is as before, is refused by `open`
     // of `lab_store_files`, or is the whole one; and where it failed, the new file is refused:
     ensures unfinished { IsBlank (state T.Store new.old).now → LeavesUnfinished T.Store
-        (state S.Store old.old.conn) (state S.Store old.new.conn) result
+        (state S.Store old.conn) (state S.Store result.left) result.ending
         (state T.Store new.old) (state T.Store new.new) }
     // Where it answers a number, what it made lasts: a crash leaves the whole file and nothing else:
     ensures durable { IsBlank (state T.Store new.old).now → HasCleanDisk (state T.Store new.new) →
-        OnOk result (Lasts (state S.Store old.old.conn) (state S.Store old.new.conn)
+        OnOk result.ending (Lasts (state S.Store old.conn) (state S.Store result.left)
         (state T.Store new.new)) }
-    // The new file is untouched where the old one is none of an older schema, and where it has such a
-    // table itself:
-    ensures untouched { IfErr result (λ fault. IsTrue (is_early fault) → new.new ≡ new.old) }
+    // The new file is untouched where it has such a table itself:
+    ensures untouched { IfErr result.ending (λ fault. IsTrue (is_early fault) → new.new ≡ new.old) }
     ensures taken { IsTrue (is_taken (state T.Store new.old).now.schema) →
-        OnOk result ⊥ × (new.new ≡ new.old) }
+        OnOk result.ending ⊥ × (new.new ≡ new.old) }
 {
-    match begin(old, new) {
-        Ok(older) => fill(alloc, old, older, new, progress),
-        Err(fault) => Err(MoveFault::File(fault)),
+    let (mut file, older) = old.into_parts();
+    match make_tables(new) {
+        Ok(()) => {
+            let ending = fill(alloc, &mut file, older, new, progress);
+            MoveEnd {
+                ending,
+                left: file.conn,
+            }
+        }
+        Err(fault) => MoveEnd {
+            ending: Err(MoveFault::File(fault)),
+            left: file.conn,
+        },
     }
 }

@@ -1,4 +1,4 @@
-//! An old file is opened, where it is one of an older schema of which files are moved.
+//! The only way to a file of an older schema: it is opened, where it is one of which files are moved.
 
 ghost use Rattle.std.specs.Prelude.{◌≡◌, ◌≢◌, ◌⊎◌, ℤ, Bool, Option, [], Result, Ok, Err, IfOk, IfErr};
 ghost use Rattle.sqlite_value.specs.Order.{column};
@@ -12,6 +12,7 @@ ghost use Rattle.lab_move_tables.specs.Reading.{ReadsOld};
 ghost use Rattle.lab_move_tables.specs.declared.older.Older.{Older as AnyOlder};
 ghost use Rattle.lab_move.specs.Causes.{IsUnasked};
 ghost use Rattle.lab_move.specs.Faults.{IsOfStore};
+ghost use Rattle.lab_move.specs.Openings.{ending_of, left_by};
 ghost use Rattle.lab_move.specs.OldFiles.{older_of, whole_verdict, other_verdict, named_verdict, old_verdict, OldAnswers, IsNamedOldFile};
 ghost use Rattle.lab_move.specs.Owed.{AnswersOldOwed, IsOldOwed};
 
@@ -23,15 +24,16 @@ use lab_store_read::{ReadFault, Readable, read_fault};
 use sqlite::types::ValueRef;
 use sqlite::{Alter, Connection, Row};
 use sqlite_schema::schema::Schema;
+use std::marker::Model;
 
-/// A file that is to be moved, over a connection to it.
+/// An old file that is asked, over a connection to it.
 #[derive(Drop)]
-pub struct OldFile<S: Alter> {
+pub(crate) struct Asked<S: Alter> {
     /// The connection.
-    pub conn: Connection<S>,
+    pub(crate) conn: Connection<S>,
 }
 
-impl<S: Alter> Readable for OldFile<S> {
+impl<S: Alter> Readable for Asked<S> {
     ghost use Rattle.sqlite.specs.Held.{state as state_held};
 
     ghost state = { λ file. state_held S.Store file.conn };
@@ -42,6 +44,59 @@ impl<S: Alter> Readable for OldFile<S> {
             Err(error) => Err(read_fault(error)),
         }
     }
+}
+
+/// A file of an older schema, which was asked once which one it is. `open_old` makes the only
+/// `OldFile` there is. Nobody else writes to the file. A contract sees the connection and the schema.
+pub struct OldFile<S: Alter> {
+    conn: Connection<S>,
+    older: Older,
+}
+
+// `drop` is written out, so that a caller doesn't prove again how each part is dropped.
+impl<S: Alter + Drop> Drop for OldFile<S> {
+    fn drop(self) {
+        let OldFile { conn: _, older: _ } = self;
+    }
+}
+
+impl<S: Alter> Model for OldFile<S> {
+    ghost use Rattle.std.specs.Prelude.{Ok};
+    ghost use Rattle.sqlite.specs.Held.{state};
+    ghost use Rattle.sqlite.specs.State.{HasCleanDisk};
+    ghost use Rattle.lab_move.specs.Openings.{Opened, opened_code};
+    ghost use Rattle.lab_move.specs.Owed.{AnswersOldOwed};
+
+    ghost Value = { Opened S };
+
+    ghost coded = { opened_code S.code };
+
+    ghost view = { λ file. record { conn = file.conn; older = file.older } };
+
+    ghost invariant = { λ file. HasCleanDisk (state S.Store file.conn) →
+        AnswersOldOwed (state S.Store file.conn).now (Ok file.older) };
+}
+
+impl<S: Alter> OldFile<S> {
+    // The file, to be asked for its rows, and of which schema it is, as it answered.
+    pub(crate) fn into_parts(self) -> (Asked<S>, Older)
+        ensures conn { result.0.conn ≡ self.conn }
+        ensures older { result.1 ≡ self.older }
+        ensures owed { HasCleanDisk (state S.Store result.0.conn) →
+            AnswersOldOwed (state S.Store result.0.conn).now (Ok result.1) }
+    {
+        let OldFile { conn, older } = self;
+        (Asked { conn }, older)
+    }
+}
+
+/// Why a file isn't one of an older schema, and the connection, which is handed back.
+#[derive(Drop)]
+pub struct Unopened<S: Alter> {
+    /// Why the file wasn't opened.
+    pub fault: FileFault,
+    /// The connection.
+    pub conn: Connection<S>,
 }
 
 /// Law: an old file owes one answer, and not two, whichever older schemas' tables it has and
@@ -144,29 +199,18 @@ fn number_rows<D: Readable>(tables: &mut D) -> Result<Vec<Row>, FileFault>
     }
 }
 
-/// Looks of which older schema a file is, by the one row of the table `desk`, and by whether each
-/// table, column and reference is there, however they were written. Nothing is written. What the
-/// rows say isn't looked at.
-///
-/// # Errors
-/// None of these files, an older or a newer schema with its number, a refusal of the store, or out
-/// of memory.
-pub fn open_old<S: Alter>(file: &mut OldFile<S>) -> Result<Older, FileFault>
-    // The answer is the verdict on the file, or the store gave none:
+// Of which older schema the file is.
+fn older_in<S: Alter>(file: &mut Asked<S>) -> Result<Older, FileFault>
     ensures answer { HasCleanDisk (state S.Store file.new.conn) →
         OldAnswers (state S.Store file.old.conn) (state S.Store file.new.conn) result }
-    // Each refusal is told exactly where the file owes it, unless the store failed:
     ensures owed { HasCleanDisk (state S.Store file.new.conn) →
         AnswersOldOwed (state S.Store file.old.conn).now result }
-    // A file of an older schema is never refused as another one:
     ensures ours { HasCleanDisk (state S.Store file.new.conn) → (older : AnyOlder) →
         IsNamedOldFile older (state S.Store file.old.conn).now →
         (result ≡ Ok older) ⊎ FailedInStore result }
-    // However it ends, the rows are as they were, and a crash leaves no more than before:
     ensures reads { ReadsOld (λ _ _. Unit {0})
         (state S.Store file.old.conn) (state S.Store file.new.conn) result }
     ensures fault { result ≢ Err NotEmpty }
-    // The store's refusal has its cause:
     ensures cause { HasCleanDisk (state S.Store file.new.conn) →
         IfErr result (λ fault. fault ≡ Storage →
         IsUnasked (state S.Store file.old.conn) (state S.Store file.new.conn)) }
@@ -177,5 +221,45 @@ pub fn open_old<S: Alter>(file: &mut OldFile<S>) -> Result<Older, FileFault>
     match number_rows(file) {
         Ok(rows) => verdict(file.conn.schema(), &rows),
         Err(fault) => Err(fault),
+    }
+}
+
+/// Opens a file of an older schema. It looks of which one the file is, by the one row of the table
+/// `desk`, and by whether each table, column and reference is there, however they were written.
+/// Nothing is written. What the rows say isn't looked at.
+///
+/// # Errors
+/// None of these files, an older or a newer schema with its number, a refusal of the store, or out
+/// of memory. The connection is handed back.
+pub fn open_old<S: Alter>(conn: Connection<S>) -> Result<OldFile<S>, Unopened<S>>
+    // The answer is the verdict on the file, or the store gave none:
+    ensures answer { HasCleanDisk (state S.Store (left_by result)) → OldAnswers
+        (state S.Store conn) (state S.Store (left_by result)) (ending_of result) }
+    // Each refusal is told exactly where the file owes it, unless the store failed:
+    ensures owed { HasCleanDisk (state S.Store (left_by result)) →
+        AnswersOldOwed (state S.Store conn).now (ending_of result) }
+    // A file of an older schema is never refused as another one:
+    ensures ours { HasCleanDisk (state S.Store (left_by result)) → (older : AnyOlder) →
+        IsNamedOldFile older (state S.Store conn).now →
+        (ending_of result ≡ Ok older) ⊎ FailedInStore (ending_of result) }
+    // However it ends, the rows are as they were, and a crash leaves no more than before:
+    ensures reads { ReadsOld (λ _ _. Unit {0})
+        (state S.Store conn) (state S.Store (left_by result)) (ending_of result) }
+    ensures fault { ending_of result ≢ Err NotEmpty }
+    // The store's refusal has its cause:
+    ensures cause { HasCleanDisk (state S.Store (left_by result)) →
+        IfErr (ending_of result) (λ fault. fault ≡ Storage →
+        IsUnasked (state S.Store conn) (state S.Store (left_by result))) }
+{
+    let mut file = Asked { conn };
+    match older_in(&mut file) {
+        Ok(older) => Ok(OldFile {
+            conn: file.conn,
+            older,
+        }),
+        Err(fault) => Err(Unopened {
+            fault,
+            conn: file.conn,
+        }),
     }
 }

@@ -3,13 +3,14 @@
 ghost use Rattle.std.specs.Prelude.{◌≡◌, ◌⊎◌, OnOk, IfErr};
 ghost use Rattle.lab_records_kept.specs.Bound.{IsBound};
 ghost use Rattle.lab_records_kept.specs.Dual.{IsDual};
-ghost use Rattle.lab_store_files.specs.declared.faults.FileFault.TheVariants.{Memory};
+ghost use Rattle.lab_store_files.specs.declared.faults.FileFault.TheVariants.{Memory, Storage};
+ghost use Rattle.lab_records_kept.specs.Limits.{IsWithin};
 ghost use Rattle.lab_move.specs.declared.faults.MoveFault.TheVariants.{File, NotSound};
 ghost use Rattle.lab_move.specs.Moving.{Blames, IsSoundLab};
 
 use crate::faults::MoveFault;
 use lab_forms_texts::LabCode;
-use lab_move_checks::{is_sound, is_within};
+use lab_move_tables::{is_sound, is_within};
 use lab_records_copy_out::lab_is_legible;
 use lab_records_kept::Lab;
 use lab_store_files::FileFault;
@@ -34,6 +35,7 @@ pub(crate) fn test_lab(alloc: Global, code: &LabCode, lab: &Lab) -> Result<(), M
     ensures sound { OnOk result (IsSoundLab lab.now) }
     ensures fault { IfErr result
         (Blames (λ one. (one ≡ code.now) × ¬ (IsBound lab.now × IsDual lab.now))) }
+    ensures within { IfErr result (λ fault. fault ≡ File Storage → ¬ IsWithin lab.now) }
 {
     if !is_within(lab) {
         return Err(MoveFault::File(FileFault::Storage));

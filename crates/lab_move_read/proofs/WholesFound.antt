@@ -13,15 +13,15 @@ use Rattle.lab_store_tables.specs.Meaning.{has_code, records_of}
 use Rattle.lab_store_read_records.specs.declared.heads.LabHead.{LabHead}
 use Rattle.lab_store_read_records.specs.Heads.{lab_head}
 use Rattle.lab_move_tables.specs.KeptLabs.{are_kept_forms, are_kept_records, is_kept_trail, is_kept_lab}
-use Rattle.lab_move_tables.specs.Reading.{ReadsAs}
-use Rattle.lab_move_tables.proofs.OldReaders.{may_both}
-use Rattle.lab_move_read_people.specs.Kept.{TriesAs}
+use Rattle.lab_move_tables.specs.Reading.{ReadsWhere}
+use Rattle.lab_move_tables.proofs.Wheres.{where_both, where_fail}
+use Rattle.lab_move_read_people.specs.Kept.{TriesWhere}
 use Rattle.lab_store_read_forms.specs.declared.heads.FormAt.{FormAt}
-use Rattle.lab_move_read_records.specs.Forms.{forms_at_of}
-use Rattle.lab_move_read_records.specs.Records.{are_kept_records_by, records_by}
-use Rattle.lab_move_read_records.proofs.RecordsFound.{records_are, records_kept}
+use Rattle.lab_move_read.specs.Forms.{forms_at_of}
+use Rattle.lab_move_read.specs.Records.{are_kept_records_by, records_by}
+use Rattle.lab_move_read.proofs.RecordsFound.{records_are, records_kept}
 use Rattle.lab_move_read_people.specs.declared.faults.KeptFault.{KeptFault}
-use Rattle.lab_move_read_people.specs.declared.faults.KeptFault.TheVariants.{NotKept}
+use Rattle.lab_move_read_people.specs.declared.faults.KeptFault.TheVariants.{NotKept, Storage, Memory as NoMemory}
 use Rattle.lab_move_read_people.specs.Faults.{kept_fault}
 use Rattle.lab_move_read.specs.Laboratories.{head_of, are_kept_people, is_kept_head, lab_by, IsLabOfRow, IsLabOf, IsRowUnkept, IsUnkept}
 
@@ -64,9 +64,24 @@ not_told P (Ok a) fault failed = absurd failed
 not_told P (Err e) fault failed = λ told. absurd (told_apart fault (sym failed ∙ told))
 
 -- two answers, one after the other
-pub both_read : {Stands : Database → Tables → Type 0} {A B E F : Type 0} {Was : Tables → A → Type 0} {Is : Tables → B → Type 0} {old mid new : State} {a : A} {b : B}
-    → ReadsAs Stands {E = E} Was old mid (Ok a) → ReadsAs Stands {E = F} Is mid new (Ok b) → ReadsAs Stands {T = Unit {0}} {E = ⊥} (λ t _. Was t a × Is t b) old new (Ok tt)
-both_read first next = may_both first next (λ t file was is. (was, is))
+pub both_read : {Stands Readable Needed : Database → Tables → Type 0} {A B E F : Type 0} {IsTold : E → Type 0} {IsTold2 : F → Type 0} {Was : Tables → A → Type 0} {Is : Tables → B → Type 0} {old mid new : State} {a : A} {b : B}
+    → ReadsWhere Stands Readable IsTold Was old mid (Ok a) → ReadsWhere Stands Needed IsTold2 Is mid new (Ok b)
+    → ReadsWhere Stands (λ _ _. Unit {0}) {T = Unit {0}} {E = ⊥} (λ _. ⊥) (λ t _. Was t a × Is t b) old new (Ok tt)
+both_read first next = where_both first next (λ t file was is. (was, is)) (λ t file wanted was is. tt)
+
+-- the laboratory of a row that was read isn't well kept, the store failed, or memory ran out
+pub whole_fails : {Stands Readable Needed Wanted : Database → Tables → Type 0} {A B C E : Type 0} {IsTold : E → Type 0} {is : Tables → Bool} {Was : Tables → A → Type 0} {Is : Tables → B → Type 0} {Then : Tables → C → Type 0} {old mid new : State} {a : A}
+    → ReadsWhere Stands Readable IsTold Was old mid (Ok a) → (fault : KeptFault) → TriesWhere Stands Needed is Is mid new (Err fault)
+    → ((t : Tables) → Stands old.now t → Wanted old.now t → Was t a → Needed old.now t)
+    → (end : Result C KeptFault) → IsErrAnd end (λ e. e ≡ fault) → ReadsWhere Stands Wanted (λ told. told ≡ Storage) Then old new end
+whole_fails first fault it g (Ok c) failed = absurd failed
+whole_fails {Stands} {Readable} {Needed} {Wanted} {C = C} {is = is} {Is = Is} {Then = Then} {old} {mid} {new} first fault it g (Err e) failed =
+    subst (λ (that : KeptFault). ReadsWhere Stands Wanted {T = C} (λ told. told ≡ Storage) Then old new (Err that)) (sym failed) (go fault it)
+  where
+    go : (that : KeptFault) → TriesWhere Stands Needed is Is mid new (Err that) → ReadsWhere Stands Wanted {T = C} (λ told. told ≡ Storage) Then old new (Err that)
+    go NotKept it = where_both first it (λ t file was is. tt) (λ t file wanted was is told. absurd cc)
+    go Storage it = where_fail first it (λ told. told) g
+    go NoMemory it = where_fail first it (λ told. told) g
 
 -- there is one
 module _ (t : Tables) (code : List ℕ) (head : LabHead) (is : Some head ≡ head_of t code) where
@@ -91,11 +106,11 @@ module _ (t : Tables) (code : List ℕ) (head : LabHead) (is : Some head ≡ hea
           sym (ap (is_kept_head t) same ∙ kept_alike t row) ∙ fails
 
 -- its rows aren't well kept
-pub unkept_told : {Stands : Database → Tables → Type 0} {A B E : Type 0} {P : Tables → B → Type 0} {old mid new : State} {o : Option LabHead} (code : List ℕ) (head : LabHead) → o ≡ Some head
-    → ReadsAs Stands {E = E} (λ t it. it ≡ head_of t code) old mid (Ok o) → (fault : KeptFault) → TriesAs Stands (λ t. is_kept_head t head) P mid new (Err fault)
+pub unkept_told : {Stands Readable Needed : Database → Tables → Type 0} {A B E : Type 0} {IsTold : E → Type 0} {P : Tables → B → Type 0} {old mid new : State} {o : Option LabHead} (code : List ℕ) (head : LabHead) → o ≡ Some head
+    → ReadsWhere Stands Readable {E = E} IsTold (λ t it. it ≡ head_of t code) old mid (Ok o) → (fault : KeptFault) → TriesWhere Stands Needed (λ t. is_kept_head t head) P mid new (Err fault)
     → (end : Result A KeptFault) → IsErrAnd end (λ e. e ≡ fault) → (t : Tables) → Stands old.now t → HasCleanDisk new → IfErr end (λ e. e ≡ NotKept → IsUnkept t code)
 unkept_told code head some first fault it (Ok a) failed t file clean = absurd failed
-unkept_told {Stands} {P = P} {mid = mid} {new = new} code head some first fault it (Err e) failed t file clean = λ told.
-    let none = subst (λ (that : KeptFault). TriesAs Stands (λ t. is_kept_head t head) P mid new (Err that)) (sym failed ∙ told) it in
-    let both = (both_read first none).answer t file clean in
+unkept_told {Stands} {Readable} {Needed} {P = P} {mid = mid} {new = new} code head some first fault it (Err e) failed t file clean = λ told.
+    let none = subst (λ (that : KeptFault). TriesWhere Stands Needed (λ t. is_kept_head t head) P mid new (Err that)) (sym failed ∙ told) it in
+    let both = (both_read first none).reads.answer t file clean in
     lab_unkept t code head (sym some ∙ both.0) both.1

@@ -1,1 +1,4 @@
+pub mod Forms
 pub mod Laboratories
+pub mod Records
+pub mod Readable

@@ -1,8 +1,10 @@
 //! The codes of all laboratories.
 
-ghost use Rattle.std.specs.Prelude.{◌≡◌, map, IfOk};
-ghost use Rattle.lab_move_tables.specs.Reading.{ReadsOld};
+ghost use Rattle.std.specs.Prelude.{◌≡◌, map, All, IfErr, IfOk};
+ghost use Rattle.lab_store_read.specs.Cells.{storage};
+ghost use Rattle.lab_move_tables.specs.Reading.{ReadsOldWhere};
 ghost use Rattle.lab_move_read.specs.Laboratories.{codes_of, code_read};
+ghost use Rattle.lab_move_read.specs.Readable.{HasCodes, HasLabCode};
 
 use lab_forms_texts::{LabCode, Series};
 use lab_move_tables::code_rows;
@@ -13,7 +15,8 @@ use std::alloc::Global;
 
 // The codes that rows show.
 fn codes_of_rows(alloc: Global, rows: &[Row]) -> Result<Vec<LabCode>, ReadFault>
-    ensures { IfOk result (λ made. made.items ≡ map code_read rows.now) }
+    ensures value { IfOk result (λ made. made.items ≡ map code_read rows.now) }
+    ensures fault { IfErr result (λ fault. fault ≡ storage → ¬ All HasLabCode rows.now) }
 {
     let mut made = Vec::new(alloc);
     for row in rows {
@@ -24,7 +27,8 @@ fn codes_of_rows(alloc: Global, rows: &[Row]) -> Result<Vec<LabCode>, ReadFault>
 
 // The codes that rows show, as a list.
 fn codes_listed(alloc: Global, rows: &[Row]) -> Result<Series<LabCode>, ReadFault>
-    ensures { IfOk result (λ made. made ≡ map code_read rows.now) }
+    ensures value { IfOk result (λ made. made ≡ map code_read rows.now) }
+    ensures fault { IfErr result (λ fault. fault ≡ storage → ¬ All HasLabCode rows.now) }
 {
     Ok(Series::from_vec(codes_of_rows(alloc, rows)?))
 }
@@ -34,7 +38,8 @@ fn codes_listed(alloc: Global, rows: &[Row]) -> Result<Series<LabCode>, ReadFaul
 /// # Errors
 /// The store refused, a row is none that is written, or memory ran out.
 pub fn codes<D: Readable>(alloc: Global, conn: &mut D) -> Result<Series<LabCode>, ReadFault>
-    ensures { ReadsOld (λ t made. made ≡ codes_of t) (D.state conn.old) (D.state conn.new) result }
+    ensures { ReadsOldWhere HasCodes (λ t made. made ≡ codes_of t)
+        (D.state conn.old) (D.state conn.new) result }
 {
     let rows = code_rows(conn)?;
     codes_listed(alloc, &rows)

@@ -3,15 +3,16 @@
 ghost use Rattle.std.specs.Prelude.{◌≡◌, IfErr};
 ghost use Rattle.sqlite.specs.State.{HasCleanDisk};
 ghost use Rattle.lab_store_tables.specs.Rows.{Tables};
-ghost use Rattle.lab_move_tables.specs.Reading.{ReadsBy, ReadsOld};
+ghost use Rattle.lab_move_tables.specs.Reading.{ReadsOldWhere, ReadsWhere};
 ghost use Rattle.lab_move_tables.specs.Standing.{StandsBy};
 ghost use Rattle.lab_move_read_people.specs.Kept.{TriesBy};
-ghost use Rattle.lab_move_read_people.specs.declared.faults.KeptFault.TheVariants.{NotKept};
+ghost use Rattle.lab_move_read_people.specs.declared.faults.KeptFault.TheVariants.{NotKept, Storage};
+ghost use Rattle.lab_move_read.specs.Readable.{HasHead, HasParts, HasPeople, HasWhole, HasWork};
 ghost use Rattle.lab_move_read.specs.Laboratories.{head_of, people_of, work_of, are_kept_people, is_kept_work, is_kept_head, lab_by, IsLabOf, IsUnkept};
 
+use crate::{forms_alone, forms_at, records_at};
 use lab_forms_texts::{LabCode, Series};
 use lab_move_read_people::{KeptFault, persons_at, sessions_at, trail_at};
-use lab_move_read_records::{forms_alone, forms_at, records_at};
 use lab_move_tables::{Older, lab_rows};
 use lab_people_access::{Person, Session};
 use lab_records_kept::{FormVersion, Lab, Record};
@@ -43,7 +44,7 @@ fn head_at<D: Readable>(
     conn: &mut D,
     code: &LabCode,
 ) -> Result<Option<LabHead>, ReadFault>
-    ensures { ReadsOld (λ t head. head ≡ head_of t code.now)
+    ensures { ReadsOldWhere (HasHead code.now) (λ t head. head ≡ head_of t code.now)
         (D.state conn.old) (D.state conn.new) result }
 {
     let rows = lab_rows(conn, code.as_str())?;
@@ -57,7 +58,7 @@ fn people_at<D: Readable>(
     older: Older,
     head: &LabHead,
 ) -> Result<People, KeptFault>
-    ensures { TriesBy older (λ t. are_kept_people t head.now)
+    ensures { TriesBy older (HasPeople older head.now.id) (λ t. are_kept_people t head.now)
         (λ t people. people ≡ people_of t head.now)
         (D.state conn.old) (D.state conn.new) result }
 {
@@ -73,7 +74,8 @@ fn work_at<D: Readable>(
     older: Older,
     head: &LabHead,
 ) -> Result<Work, KeptFault>
-    ensures { TriesBy older (λ t. is_kept_work t head.now) (λ t work. work ≡ work_of t head.now)
+    ensures { TriesBy older (HasWork older head.now.id) (λ t. is_kept_work t head.now)
+        (λ t work. work ≡ work_of t head.now)
         (D.state conn.old) (D.state conn.new) result }
 {
     let forms = forms_at(alloc, conn, older, head.id)?;
@@ -100,7 +102,8 @@ fn lab_whole<D: Readable>(
     older: Older,
     head: LabHead,
 ) -> Result<Lab, KeptFault>
-    ensures { TriesBy older (λ t. is_kept_head t head) (λ t lab. lab ≡ lab_by t head)
+    ensures { TriesBy older (λ db t. HasParts older db t head) (λ t. is_kept_head t head)
+        (λ t lab. lab ≡ lab_by t head)
         (D.state conn.old) (D.state conn.new) result }
 {
     let people = people_at(alloc, conn, older, &head)?;
@@ -133,7 +136,8 @@ pub fn whole<D: Readable>(
     older: Older,
     code: &LabCode,
 ) -> Result<Option<Lab>, KeptFault>
-    ensures reads { ReadsBy older (λ t found. IsLabOf t code.now found)
+    ensures reads { ReadsWhere (StandsBy older) (HasWhole older code.now)
+        (λ fault. fault ≡ Storage) (λ t found. IsLabOf t code.now found)
         (D.state conn.old) (D.state conn.new) result }
     ensures not_kept { (t : Tables) → StandsBy older (D.state conn.old).now t →
         HasCleanDisk (D.state conn.new) →

@@ -6,7 +6,7 @@ use Rattle.sqlite.specs.Effect.{Database}
 use Rattle.sqlite.specs.State.{State}
 use Rattle.lab_store_tables.specs.Rows.{Tables}
 use Rattle.lab_move_tables.specs.Checks.{are_rows_numbered}
-use Rattle.lab_move_tables.specs.Reading.{ReadsAs}
+use Rattle.lab_move_tables.specs.Reading.{ReadsWhere}
 use Rattle.lab_move_tables.specs.Standing.{StandsBy, StandsBySome}
 use Rattle.lab_move_tables.specs.declared.older.Older.{Older}
 use Rattle.lab_move_read_people.specs.declared.faults.KeptFault.{KeptFault}
@@ -28,21 +28,24 @@ IsFound is_kept Made None = is_kept ≡ false
 abbrev pub IsTried : {T : Type 0} → Bool → (T → Type 0) → Result T KeptFault → Type 0
 IsTried is_kept Made result = IfOk (found_of result) (IsFound is_kept Made)
 
--- of rows that a file has, for whose tables it stands in this way
-abbrev pub TriesAs : (Database → Tables → Type 0) → {T : Type 0} → (Tables → Bool)
-    → (Tables → T → Type 0) → State → State → Result T KeptFault → Type 0
-TriesAs Stands is_kept Made old new result =
-    ReadsAs Stands (λ t. IsFound (is_kept t) (Made t)) old new (found_of result)
+-- of rows that a file has, for whose tables it stands in this way, and which is readable so
+abbrev pub TriesWhere : (Database → Tables → Type 0) → (Database → Tables → Type 0) → {T : Type 0}
+    → (Tables → Bool) → (Tables → T → Type 0) → State → State → Result T KeptFault → Type 0
+TriesWhere Stands Readable is_kept Made old new result =
+    ReadsWhere Stands Readable (λ fault. fault ≡ Storage) (λ t. IsFound (is_kept t) (Made t)) old new
+    (found_of result)
 
 -- of a file of any older schema
-abbrev pub TriesOld : {T : Type 0} → (Tables → Bool) → (Tables → T → Type 0) → State → State
-    → Result T KeptFault → Type 0
-TriesOld is_kept Made old new result = TriesAs StandsBySome is_kept Made old new result
+abbrev pub TriesOld : (Database → Tables → Type 0) → {T : Type 0} → (Tables → Bool)
+    → (Tables → T → Type 0) → State → State → Result T KeptFault → Type 0
+TriesOld Readable is_kept Made old new result =
+    TriesWhere StandsBySome Readable is_kept Made old new result
 
 -- of a file of this one
-abbrev pub TriesBy : Older → {T : Type 0} → (Tables → Bool) → (Tables → T → Type 0) → State
-    → State → Result T KeptFault → Type 0
-TriesBy older is_kept Made old new result = TriesAs (StandsBy older) is_kept Made old new result
+abbrev pub TriesBy : Older → (Database → Tables → Type 0) → {T : Type 0} → (Tables → Bool)
+    → (Tables → T → Type 0) → State → State → Result T KeptFault → Type 0
+TriesBy older Readable is_kept Made old new result =
+    TriesWhere (StandsBy older) Readable is_kept Made old new result
 
 abbrev pub are_counted : ℕ → ℕ → List Row → Bool
 are_counted at count rows = (length rows == count) && are_rows_numbered at rows

@@ -3,4 +3,5 @@ pub mod Faults
 pub mod Kept
 pub mod Owners
 pub mod Persons
+pub mod Readable
 pub mod Trails

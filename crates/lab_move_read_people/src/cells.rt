@@ -1,12 +1,15 @@
 //! One column of a row, as the type that stands in it. What is none of that type is a fault of the store.
 
-ghost use Rattle.std.specs.Prelude.{◌≡◌, IfOk};
+ghost use Rattle.std.specs.Prelude.{◌≡◌, All, IfErr, IfOk};
 ghost use Rattle.sqlite_value.specs.Order.{column};
 ghost use Rattle.lab_store_tables.specs.Rows.{number_in, flag_in};
 ghost use Rattle.lab_store_tables.specs.Columns.{roles_in};
+ghost use Rattle.lab_store_read.specs.Cells.{storage};
+ghost use Rattle.lab_move_tables.specs.Checks.{HasNumber};
 ghost use Rattle.lab_move_tables.specs.OldRows.{reason_in};
 ghost use Rattle.lab_move_read_people.specs.Cells.{is_null};
 ghost use Rattle.lab_move_read_people.specs.Kept.{are_counted};
+ghost use Rattle.lab_move_read_people.specs.Readable.{HasCell, HasFlag, HasReason, HasRoles};
 
 use lab_forms_texts::Note;
 use lab_move_tables::are_rows_numbered;
@@ -23,7 +26,8 @@ use std::alloc::Global;
 /// # Errors
 /// The store refused, a row is none that is written, or memory ran out.
 pub fn flag_of(row: &Row, at: usize) -> Result<bool, ReadFault>
-    ensures { IfOk result (λ flag. flag ≡ flag_in (column row.now at)) }
+    ensures value { IfOk result (λ flag. flag ≡ flag_in (column row.now at)) }
+    ensures fault { IfErr result (λ fault. fault ≡ storage → ¬ HasFlag at row.now) }
 {
     match small_of(row, at)? {
         0 => Ok(false),
@@ -37,7 +41,8 @@ pub fn flag_of(row: &Row, at: usize) -> Result<bool, ReadFault>
 /// # Errors
 /// The store refused, a row is none that is written, or memory ran out.
 pub fn roles_of(row: &Row, at: usize) -> Result<Roles, ReadFault>
-    ensures { IfOk result (λ roles. roles ≡ roles_in (number_in (column row.now at))) }
+    ensures value { IfOk result (λ roles. roles ≡ roles_in (number_in (column row.now at))) }
+    ensures fault { IfErr result (λ fault. fault ≡ storage → ¬ HasRoles at row.now) }
 {
     let sum = small_of(row, at)?;
     if sum > 31 {
@@ -51,7 +56,8 @@ pub fn roles_of(row: &Row, at: usize) -> Result<Roles, ReadFault>
 /// # Errors
 /// The store refused, or memory ran out.
 pub fn is_null(row: &Row, at: usize) -> Result<bool, ReadFault>
-    ensures { IfOk result (λ empty. empty ≡ is_null (column row.now at)) }
+    ensures value { IfOk result (λ empty. empty ≡ is_null (column row.now at)) }
+    ensures fault { IfErr result (λ fault. fault ≡ storage → ¬ HasCell at row.now) }
 {
     match cell_of(row, at)? {
         ValueRef::Null => Ok(true),
@@ -64,7 +70,8 @@ pub fn is_null(row: &Row, at: usize) -> Result<bool, ReadFault>
 /// # Errors
 /// The store refused, a row is none that is written, or memory ran out.
 pub fn reason_of(alloc: Global, row: &Row, at: usize) -> Result<Option<Note>, ReadFault>
-    ensures { IfOk result (λ reason. reason ≡ reason_in (column row.now at)) }
+    ensures value { IfOk result (λ reason. reason ≡ reason_in (column row.now at)) }
+    ensures fault { IfErr result (λ fault. fault ≡ storage → ¬ HasReason at row.now) }
 {
     match cell_of(row, at)? {
         ValueRef::Null | ValueRef::Text([]) => Ok(None),
@@ -78,7 +85,8 @@ pub fn reason_of(alloc: Global, row: &Row, at: usize) -> Result<Option<Note>, Re
 /// # Errors
 /// A row is none that is written, or memory ran out.
 pub fn are_counted(rows: &[Row], at: usize, count: u64) -> Result<bool, ReadFault>
-    ensures { IfOk result (λ yes. yes ≡ are_counted at count rows.now) }
+    ensures value { IfOk result (λ yes. yes ≡ are_counted at count rows.now) }
+    ensures fault { IfErr result (λ fault. fault ≡ storage → ¬ All (HasNumber at) rows.now) }
 {
     if rows.len() as u64 != count {
         return Ok(false);

@@ -1,13 +1,15 @@
 //! What is kept of a password, and what was asked for, from the columns of a person's row.
 
-ghost use Rattle.std.specs.Prelude.{◌≡◌, None, IfOk, unwrap_or};
+ghost use Rattle.std.specs.Prelude.{◌≡◌, None, IfErr, IfOk, unwrap_or};
 ghost use Rattle.sqlite_value.specs.Order.{column, bytes};
 ghost use Rattle.lab_people_access.specs.declared.passwords.Password.TheVariants.{Unset, Chosen, OneTime};
 ghost use Rattle.lab_store_tables.specs.Rows.{number_in, optional_in};
 ghost use Rattle.lab_store_tables.specs.Columns.{verifier_in, password_in};
+ghost use Rattle.lab_store_read.specs.Cells.{storage};
 ghost use Rattle.lab_store_read_people.specs.Heads.{ask_head};
 ghost use Rattle.lab_move_read_people.specs.Cells.{are_null, has_no_password};
 ghost use Rattle.lab_move_read_people.specs.Persons.{password_cells, ask_cells, ask_by_row, ask_rounds_in};
+ghost use Rattle.lab_move_read_people.specs.Readable.{HasCell, HasOldAsk, HasOldAsked, HasOldChosen, HasOldOneTime, HasOldPassword, HasOldVerifier, HasUnasked, HasUnset};
 
 use crate::cells::is_null;
 use lab_move_tables::Older;
@@ -22,10 +24,11 @@ use sqlite::Row;
 // The verifier whose salt and bytes stand in two columns; every verifier of a file of schema 2 has
 // the old rounds.
 fn verifier_of(row: &Row, salt: usize, made: usize) -> Result<Verifier, ReadFault>
-    ensures { IfOk result (λ verifier. verifier
+    ensures value { IfOk result (λ verifier. verifier
         ≡ verifier_in (optional_in bytes (column row.now salt))
         (optional_in number_in (column row.now 8))
         (optional_in bytes (column row.now made))) }
+    ensures fault { IfErr result (λ fault. fault ≡ storage → ¬ HasOldVerifier row.now salt made) }
 {
     let salt = salt_due(row, salt)?;
     let rounds = small_due(row, 8)?;
@@ -38,7 +41,8 @@ fn verifier_of(row: &Row, salt: usize, made: usize) -> Result<Verifier, ReadFaul
 
 // Whether nothing stands in two columns.
 fn are_null(row: &Row, first: usize, second: usize) -> Result<bool, ReadFault>
-    ensures { IfOk result (λ empty. empty ≡ are_null first second row.now) }
+    ensures value { IfOk result (λ empty. empty ≡ are_null first second row.now) }
+    ensures fault { IfErr result (λ fault. fault ≡ storage → ¬ (HasCell first row.now × HasCell second row.now)) }
 {
     if is_null(row, first)? {
         is_null(row, second)
@@ -49,10 +53,11 @@ fn are_null(row: &Row, first: usize, second: usize) -> Result<bool, ReadFault>
 
 // A password that was chosen. It has one verifier.
 fn chosen_of_row(row: &Row) -> Result<Password, ReadFault>
-    ensures { IfOk result (λ password. password
+    ensures value { IfOk result (λ password. password
         ≡ Chosen (verifier_in (optional_in bytes (column row.now 7))
         (optional_in number_in (column row.now 8)) (optional_in bytes (column row.now 9)))
         (unwrap_or (optional_in number_in (column row.now 12)) 0)) }
+    ensures fault { IfErr result (λ fault. fault ≡ storage → ¬ HasOldChosen row.now) }
 {
     if !are_null(row, 10, 11)? {
         return Err(ReadFault::Refused(BadStore));
@@ -65,8 +70,9 @@ fn chosen_of_row(row: &Row) -> Result<Password, ReadFault>
 // The second verifier of a one-time word, which has a salt of its own.
 #[tactic(auto, using(crate::proofs::Beside::beside_filled))]
 fn second_of_row(older: Older, row: &Row) -> Result<Verifier, ReadFault>
-    ensures { let cells = password_cells older row.now in IfOk result
+    ensures value { let cells = password_cells older row.now in IfOk result
         (λ verifier. verifier ≡ verifier_in cells.salt2 cells.rounds2 cells.bytes2) }
+    ensures fault { IfErr result (λ fault. fault ≡ storage → ¬ HasOldVerifier row.now 10 11) }
 {
     if is_null(row, 10)? {
         return Err(ReadFault::Refused(BadStore));
@@ -78,9 +84,10 @@ fn second_of_row(older: Older, row: &Row) -> Result<Verifier, ReadFault>
 
 // A one-time word.
 fn one_time_of_row(older: Older, row: &Row) -> Result<Password, ReadFault>
-    ensures { let cells = password_cells older row.now in IfOk result (λ password. password
+    ensures value { let cells = password_cells older row.now in IfOk result (λ password. password
         ≡ OneTime (verifier_in cells.salt cells.rounds cells.bytes)
         (verifier_in cells.salt2 cells.rounds2 cells.bytes2) (unwrap_or cells.changed 0)) }
+    ensures fault { IfErr result (λ fault. fault ≡ storage → ¬ HasOldOneTime row.now) }
 {
     let first = verifier_of(row, 7, 9)?;
     let second = second_of_row(older, row)?;
@@ -94,7 +101,9 @@ fn one_time_of_row(older: Older, row: &Row) -> Result<Password, ReadFault>
 
 // Whether all columns of a password but its kind are empty.
 fn has_no_password(row: &Row) -> Result<bool, ReadFault>
-    ensures { IfOk result (λ empty. empty ≡ has_no_password row.now) }
+    ensures value { IfOk result (λ empty. empty ≡ has_no_password row.now) }
+    ensures fault { IfErr result (λ fault. fault ≡ storage → ¬ (HasCell 7 row.now × HasCell 8 row.now × HasCell 9 row.now × HasCell 10 row.now
+        × HasCell 11 row.now × HasCell 12 row.now)) }
 {
     if !are_null(row, 7, 8)? {
         return Ok(false);
@@ -107,7 +116,8 @@ fn has_no_password(row: &Row) -> Result<bool, ReadFault>
 
 // No password.
 fn unset_of_row(row: &Row) -> Result<Password, ReadFault>
-    ensures { IfOk result (λ password. password ≡ Unset) }
+    ensures value { IfOk result (λ password. password ≡ Unset) }
+    ensures fault { IfErr result (λ fault. fault ≡ storage → ¬ HasUnset row.now) }
 {
     if has_no_password(row)? {
         Ok(Password::Unset)
@@ -121,7 +131,8 @@ fn unset_of_row(row: &Row) -> Result<Password, ReadFault>
 /// # Errors
 /// The store refused, a row is none that is written, or memory ran out.
 pub(crate) fn password_of_row(older: Older, row: &Row) -> Result<Password, ReadFault>
-    ensures { IfOk result (λ password. password ≡ password_in (password_cells older row.now)) }
+    ensures value { IfOk result (λ password. password ≡ password_in (password_cells older row.now)) }
+    ensures fault { IfErr result (λ fault. fault ≡ storage → ¬ HasOldPassword row.now) }
 {
     let kind = small_of(row, 6)?;
     if kind == 0 {
@@ -137,7 +148,8 @@ pub(crate) fn password_of_row(older: Older, row: &Row) -> Result<Password, ReadF
 
 // The rounds of what was asked for.
 fn ask_rounds_of(older: Older, row: &Row) -> Result<u32, ReadFault>
-    ensures { IfOk result (λ rounds. rounds ≡ unwrap_or (ask_rounds_in older row.now) 0) }
+    ensures value { IfOk result (λ rounds. rounds ≡ unwrap_or (ask_rounds_in older row.now) 0) }
+    ensures fault { IfErr result (λ _. ⊥) }
 {
     match older {
         Older::Two => Ok(OLD_ROUNDS),
@@ -146,7 +158,8 @@ fn ask_rounds_of(older: Older, row: &Row) -> Result<u32, ReadFault>
 
 // What the asker asked for.
 fn ask_by_row(older: Older, row: &Row, asker: i64) -> Result<AskHead, ReadFault>
-    ensures { IfOk result (λ ask. ask ≡ ask_by_row older row.now asker) }
+    ensures value { IfOk result (λ ask. ask ≡ ask_by_row older row.now asker) }
+    ensures fault { IfErr result (λ fault. fault ≡ storage → ¬ HasOldAsked row.now) }
 {
     let asked = moment_due(row, 14)?;
     let salt = salt_due(row, 15)?;
@@ -161,7 +174,8 @@ fn ask_by_row(older: Older, row: &Row, asker: i64) -> Result<AskHead, ReadFault>
 
 // Nothing was asked for, and no column says what.
 fn unasked_of_row(row: &Row) -> Result<Option<AskHead>, ReadFault>
-    ensures { IfOk result (λ ask. ask ≡ None) }
+    ensures value { IfOk result (λ ask. ask ≡ None) }
+    ensures fault { IfErr result (λ fault. fault ≡ storage → ¬ HasUnasked row.now) }
 {
     if !are_null(row, 14, 15)? {
         return Err(ReadFault::Refused(BadStore));
@@ -177,7 +191,8 @@ fn unasked_of_row(row: &Row) -> Result<Option<AskHead>, ReadFault>
 /// # Errors
 /// The store refused, a row is none that is written, or memory ran out.
 pub(crate) fn ask_of_row(older: Older, row: &Row) -> Result<Option<AskHead>, ReadFault>
-    ensures { IfOk result (λ ask. ask ≡ ask_head (ask_cells older row.now)) }
+    ensures value { IfOk result (λ ask. ask ≡ ask_head (ask_cells older row.now)) }
+    ensures fault { IfErr result (λ fault. fault ≡ storage → ¬ HasOldAsk row.now) }
 {
     match id_if(row, 13)? {
         Some(asker) => Ok(Some(ask_by_row(older, row, asker)?)),

@@ -1,12 +1,19 @@
 //! The persons of a laboratory.
 
-ghost use Rattle.std.specs.Prelude.{◌≡◌, map, option_map, IfOk};
+ghost use Rattle.std.specs.Prelude.{◌≡◌, [], ◌∷◌, map, option_map, All, IfErr, IfOk, IfSome};
+ghost use Rattle.sqlite_value.specs.declared.value.Value.TheVariants.{Int};
 ghost use Rattle.std.specs.List.{list_all};
 ghost use Rattle.lab_store_tables.specs.Meaning.{persons_of};
 ghost use Rattle.lab_store_read_people.specs.Heads.{ask_by, person_by, person_heads_of};
 ghost use Rattle.lab_move_tables.specs.KeptLabs.{are_kept_persons};
-ghost use Rattle.lab_move_tables.specs.Reading.{ReadsBy};
+ghost use Rattle.lab_store_read.specs.Cells.{storage};
+ghost use Rattle.lab_store_read_people.specs.declared.heads.AskHead.{AskHead as AnyAsk};
+ghost use Rattle.lab_move_tables.specs.Answering.{IsTaken};
+ghost use Rattle.lab_move_tables.specs.Questions.{person_text};
+ghost use Rattle.lab_move_tables.specs.Reading.{ReadsByWhere};
+ghost use Rattle.lab_move_tables.specs.Shown.{persons_shown};
 ghost use Rattle.lab_move_read_people.specs.Kept.{TriesBy, TriesOld};
+ghost use Rattle.lab_move_read_people.specs.Readable.{HasAsker, HasOldPerson, HasOwner, HasPersons};
 ghost use Rattle.lab_move_read_people.specs.Persons.{person_read, is_kept_ask, is_kept_head};
 
 use crate::KeptFault;
@@ -25,7 +32,8 @@ use std::alloc::Global;
 
 // The person whom a row shows.
 fn person_of_row(alloc: Global, older: Older, row: &Row) -> Result<PersonHead, ReadFault>
-    ensures { IfOk result (λ person. person ≡ person_read older row.now) }
+    ensures value { IfOk result (λ person. person ≡ person_read older row.now) }
+    ensures fault { IfErr result (λ fault. fault ≡ storage → ¬ HasOldPerson row.now) }
 {
     let roles = roles_of(row, 2)?;
     let retired = flag_of(row, 3)?;
@@ -49,7 +57,8 @@ fn person_of_row(alloc: Global, older: Older, row: &Row) -> Result<PersonHead, R
 
 // The persons whom rows show.
 fn persons_of_rows(alloc: Global, older: Older, rows: &[Row]) -> Result<Vec<PersonHead>, ReadFault>
-    ensures { IfOk result (λ made. made.items ≡ map (person_read older) rows.now) }
+    ensures value { IfOk result (λ made. made.items ≡ map (person_read older) rows.now) }
+    ensures fault { IfErr result (λ fault. fault ≡ storage → ¬ All HasOldPerson rows.now) }
 {
     let mut made = Vec::new(alloc);
     for row in rows {
@@ -65,7 +74,9 @@ fn person_heads_at<D: Readable>(
     older: Older,
     lab: i64,
 ) -> Result<Vec<PersonHead>, ReadFault>
-    ensures { ReadsBy older (λ t made. made.items ≡ person_heads_of t lab)
+    ensures { ReadsByWhere older (λ db t. IsTaken db (person_text older) (Int lab ∷ [])
+        × All HasOldPerson (persons_shown older t lab))
+        (λ t made. made.items ≡ person_heads_of t lab)
         (D.state conn.old) (D.state conn.new) result }
 {
     let rows = person_rows(conn, older, lab)?;
@@ -79,7 +90,8 @@ fn ask_whole<D: Readable>(
     lab: i64,
     ask: Option<AskHead>,
 ) -> Result<Option<Ask>, KeptFault>
-    ensures { TriesOld (λ t. is_kept_ask t lab ask) (λ t whole. whole ≡ option_map (ask_by t) ask)
+    ensures { TriesOld (λ db t. IfSome ask (λ (one : AnyAsk). HasOwner db t one.asker))
+        (λ t. is_kept_ask t lab ask) (λ t whole. whole ≡ option_map (ask_by t) ask)
         (D.state conn.old) (D.state conn.new) result }
 {
     match ask {
@@ -102,7 +114,8 @@ fn person_whole<D: Readable>(
     lab: i64,
     head: PersonHead,
 ) -> Result<Person, KeptFault>
-    ensures { TriesOld (λ t. is_kept_head t lab head) (λ t person. person ≡ person_by t head)
+    ensures { TriesOld (λ db t. HasAsker db t head) (λ t. is_kept_head t lab head)
+        (λ t person. person ≡ person_by t head)
         (D.state conn.old) (D.state conn.new) result }
 {
     let ask = ask_whole(alloc, conn, lab, head.ask)?;
@@ -125,7 +138,8 @@ fn persons_whole<D: Readable>(
     lab: i64,
     heads: Vec<PersonHead>,
 ) -> Result<Series<Person>, KeptFault>
-    ensures { TriesOld (λ t. list_all (is_kept_head t lab) heads.items)
+    ensures { TriesOld (λ db t. All (HasAsker db t) heads.items)
+        (λ t. list_all (is_kept_head t lab) heads.items)
         (λ t made. made ≡ map (person_by t) heads.items)
         (D.state conn.old) (D.state conn.new) result }
 {
@@ -148,7 +162,8 @@ pub fn persons_at<D: Readable>(
     older: Older,
     lab: i64,
 ) -> Result<Series<Person>, KeptFault>
-    ensures { TriesBy older (λ t. are_kept_persons t lab) (λ t made. made ≡ persons_of t lab)
+    ensures { TriesBy older (HasPersons older lab) (λ t. are_kept_persons t lab)
+        (λ t made. made ≡ persons_of t lab)
         (D.state conn.old) (D.state conn.new) result }
 {
     let heads = person_heads_at(alloc, conn, older, lab)?;

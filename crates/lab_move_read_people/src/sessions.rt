@@ -1,11 +1,14 @@
 //! The sessions of a laboratory.
 
-ghost use Rattle.std.specs.Prelude.{◌≡◌, ◌&&◌, map, IfOk};
+ghost use Rattle.std.specs.Prelude.{◌≡◌, ◌&&◌, map, All, IfErr, IfOk};
 ghost use Rattle.lab_store_tables.specs.Meaning.{sessions_of};
 ghost use Rattle.lab_store_read_people.specs.SessionsShown.{session_read};
 ghost use Rattle.lab_move_tables.specs.KeptLabs.{are_kept_sessions};
 ghost use Rattle.lab_move_read_people.specs.Kept.{IsTried, TriesOld, are_counted};
+ghost use Rattle.lab_move_read_people.specs.Readable.{AreSessions, HasOldSession, HasSessions};
+ghost use Rattle.lab_move_read_people.specs.declared.faults.KeptFault.TheVariants.{Storage};
 ghost use Rattle.lab_move_tables.specs.Checks.{are_owned};
+ghost use Rattle.lab_store_read.specs.Cells.{storage};
 
 use crate::KeptFault;
 use crate::cells::{are_counted, flag_of};
@@ -19,7 +22,8 @@ use std::alloc::Global;
 
 // The session that a row shows.
 fn session_of_row(alloc: Global, row: &Row) -> Result<Session, ReadFault>
-    ensures { IfOk result (λ session. session ≡ session_read row.now) }
+    ensures value { IfOk result (λ session. session ≡ session_read row.now) }
+    ensures fault { IfErr result (λ fault. fault ≡ storage → ¬ HasOldSession row.now) }
 {
     let number = ordinal_of(row, 0)?;
     let token = digest_of(row, 2)?;
@@ -41,7 +45,8 @@ fn session_of_row(alloc: Global, row: &Row) -> Result<Session, ReadFault>
 
 // The sessions that rows show.
 fn sessions_of_rows(alloc: Global, rows: &[Row]) -> Result<Vec<Session>, ReadFault>
-    ensures { IfOk result (λ made. made.items ≡ map session_read rows.now) }
+    ensures value { IfOk result (λ made. made.items ≡ map session_read rows.now) }
+    ensures fault { IfErr result (λ fault. fault ≡ storage → ¬ All HasOldSession rows.now) }
 {
     let mut made = Vec::new(alloc);
     for row in rows {
@@ -52,14 +57,16 @@ fn sessions_of_rows(alloc: Global, rows: &[Row]) -> Result<Vec<Session>, ReadFau
 
 // The sessions that rows show. The rows have to be so many, numbered, and of persons of the
 // laboratory.
+#[tactic(auto, using(crate::proofs::Found::told_back))]
 fn sessions_tried(
     alloc: Global,
     rows: &[Row],
     lab: i64,
     count: u64,
 ) -> Result<Series<Session>, KeptFault>
-    ensures { IsTried (are_counted 0 count rows.now && are_owned 7 lab rows.now)
+    ensures tried { IsTried (are_counted 0 count rows.now && are_owned 7 lab rows.now)
         (λ made. made ≡ map session_read rows.now) result }
+    ensures fault { IfErr result (λ fault. fault ≡ Storage → ¬ AreSessions rows.now) }
 {
     if !are_counted(rows, 0, count)? {
         return Err(KeptFault::NotKept);
@@ -82,7 +89,8 @@ pub fn sessions_at<D: Readable>(
     lab: i64,
     count: u64,
 ) -> Result<Series<Session>, KeptFault>
-    ensures { TriesOld (λ t. are_kept_sessions t lab count) (λ t made. made ≡ sessions_of t lab)
+    ensures { TriesOld (HasSessions lab) (λ t. are_kept_sessions t lab count)
+        (λ t made. made ≡ sessions_of t lab)
         (D.state conn.old) (D.state conn.new) result }
 {
     let rows = session_rows(conn, lab)?;

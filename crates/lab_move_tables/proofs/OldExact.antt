@@ -37,7 +37,7 @@ use Rattle.lab_store_read.proofs.Texts.{children_query}
 use Rattle.lab_store_read.proofs.Sorted.{and_true, by_one, only_answer, sorted_answer, own_rows}
 use Rattle.lab_store_read.proofs.Lists.{alone_text, at_id, untied_in, untied_texts, joined}
 use Rattle.lab_store_tables.specs.Held.{AreRising}
-use Rattle.lab_store_laws.specs.ByRules.{IsByRules}
+use Rattle.lab_store_tables.specs.ByRules.{IsByRules}
 use Rattle.lab_move_tables.specs.declared.older.Older.{Older}
 use Rattle.lab_move_tables.specs.declared.older.Older.TheVariants.{Two}
 use Rattle.lab_move_tables.specs.OldRows.{old_tables, reason_in}

@@ -15,7 +15,7 @@ use Rattle.sqlite_keyed.proofs.ListLemmas.{all_from_test, ascending-filter}
 use Rattle.sqlite_keyed.proofs.KeyedLemmas.{same_int}
 use Rattle.lab_store_tables.specs.Rows.{SessionRow, VersionRow, EntryRow, SignatureRow, Tables, person_id}
 use Rattle.lab_store_tables.specs.WellKept.{same_lab, same_person, same_session, same_form, same_field, same_choice, same_record, same_version, same_entry, same_signature, same_told}
-use Rattle.lab_store_laws.specs.ByRules.{IsByRules}
+use Rattle.lab_store_tables.specs.ByRules.{IsByRules}
 use Rattle.lab_store_read.proofs.Keys.{apart, left, right, two, four}
 use Rattle.lab_store_read.proofs.Lists.{passes_filter, int_alike, untied_found}
 use Rattle.lab_store_read.proofs.Sorted.{by_one}

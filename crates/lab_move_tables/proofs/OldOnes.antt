@@ -6,7 +6,7 @@ use Rattle.sqlite_value.specs.declared.value.Value.TheVariants.{Null, Int, Real,
 use Rattle.sqlite_value.specs.Order.{Row, column}
 use Rattle.sqlite_keyed.specs.Lists.{sort_by}
 use Rattle.sqlite_keyed.proofs.ListLemmas.{all_map, all_of, all-filter}
-use Rattle.lab_store_laws.proofs.SortLaws.{all_sorted}
+use Rattle.lab_store_tables.proofs.SortLaws.{all_sorted}
 use Rattle.lab_store_tables.specs.Rows.{PersonRow, FormRow, VersionRow, EntryRow, SignatureRow, Tables, optional}
 use Rattle.lab_store_tables.specs.Meaning.{by_code, by_form, by_version, by_entry, by_signature}
 use Rattle.lab_move_tables.specs.declared.older.Older.{Older}

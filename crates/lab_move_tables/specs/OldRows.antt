@@ -9,7 +9,7 @@ use Rattle.lab_store_tables.specs.Rows.{Tables, optional_in}
 use Rattle.sqlite_schema.specs.declared.schema.Schema.{Schema}
 use Rattle.lab_store_tables.specs.Family.{Layout, tables_by}
 use Rattle.lab_store_tables.specs.Held.{AreRising, AreStoredBy}
-use Rattle.lab_store_laws.specs.ByRules.{IsByRules}
+use Rattle.lab_store_tables.specs.ByRules.{IsByRules}
 use Rattle.lab_move_tables.specs.OldSheets.{said_in}
 use Rattle.lab_move_tables.specs.Olders.{layout_of, schema_of}
 use Rattle.lab_move_tables.specs.declared.older.Older.{Older}

@@ -1,7 +1,10 @@
 //! Laboratories, each by its own row.
 
-ghost use Rattle.std.specs.Prelude.{◌≡◌};
-ghost use Rattle.lab_move_tables.specs.Reading.{ReadsOld};
+ghost use Rattle.std.specs.Prelude.{◌≡◌, [], ◌∷◌};
+ghost use Rattle.sqlite_value.specs.declared.value.Value.TheVariants.{Text};
+ghost use Rattle.lab_move_tables.specs.Answering.{IsTaken};
+ghost use Rattle.lab_move_tables.specs.Questions.{codes_text, lab_text};
+ghost use Rattle.lab_move_tables.specs.Reading.{ReadsOldWhere};
 ghost use Rattle.lab_move_tables.specs.Shown.{codes_shown, labs_shown};
 
 use crate::asking::rows_by_none;
@@ -14,7 +17,8 @@ use sqlite::Row;
 /// # Errors
 /// The store refused, or memory ran out.
 pub fn code_rows<D: Readable>(conn: &mut D) -> Result<Vec<Row>, ReadFault>
-    ensures { ReadsOld (λ t rows. rows.items ≡ codes_shown t)
+    ensures { ReadsOldWhere (λ db _. IsTaken db codes_text [])
+        (λ t rows. rows.items ≡ codes_shown t)
         (D.state conn.old) (D.state conn.new) result }
 {
     rows_by_none(conn, "SELECT code FROM labs ORDER BY code")
@@ -25,7 +29,8 @@ pub fn code_rows<D: Readable>(conn: &mut D) -> Result<Vec<Row>, ReadFault>
 /// # Errors
 /// The store refused, or memory ran out.
 pub fn lab_rows<D: Readable>(conn: &mut D, code: &str) -> Result<Vec<Row>, ReadFault>
-    ensures { ReadsOld (λ t rows. rows.items ≡ labs_shown t code.now)
+    ensures { ReadsOldWhere (λ db _. IsTaken db lab_text (Text code.now ∷ []))
+        (λ t rows. rows.items ≡ labs_shown t code.now)
         (D.state conn.old) (D.state conn.new) result }
 {
     rows_by_text(

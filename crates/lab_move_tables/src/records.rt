@@ -1,7 +1,10 @@
 //! Records of a laboratory, their versions, and the entries and signatures of these, each by its own row.
 
-ghost use Rattle.std.specs.Prelude.{◌≡◌, map};
-ghost use Rattle.lab_move_tables.specs.Reading.{ReadsBy, ReadsOld};
+ghost use Rattle.std.specs.Prelude.{◌≡◌, [], ◌∷◌, map};
+ghost use Rattle.sqlite_value.specs.declared.value.Value.TheVariants.{Int};
+ghost use Rattle.lab_move_tables.specs.Answering.{IsTaken};
+ghost use Rattle.lab_move_tables.specs.Questions.{entry_place_text, entry_text, filed_text, signature_place_text, signature_text, version_text};
+ghost use Rattle.lab_move_tables.specs.Reading.{ReadsByWhere, ReadsOldWhere};
 ghost use Rattle.lab_move_tables.specs.Showing.{said_at};
 ghost use Rattle.lab_move_tables.specs.Shown.{records_shown, versions_shown, entries_shown, entry_places_shown, signatures_shown, signature_places_shown};
 
@@ -15,7 +18,8 @@ use sqlite::Row;
 /// # Errors
 /// The store refused, or memory ran out.
 pub fn record_rows<D: Readable>(conn: &mut D, lab: i64) -> Result<Vec<Row>, ReadFault>
-    ensures { ReadsOld (λ t rows. rows.items ≡ records_shown t lab)
+    ensures { ReadsOldWhere (λ db _. IsTaken db filed_text (Int lab ∷ []))
+        (λ t rows. rows.items ≡ records_shown t lab)
         (D.state conn.old) (D.state conn.new) result }
 {
     rows_by_one(
@@ -34,7 +38,8 @@ pub fn version_rows<D: Readable>(
     older: Older,
     kept: i64,
 ) -> Result<Vec<Row>, ReadFault>
-    ensures { ReadsBy older (λ t rows. map (said_at 4) rows.items ≡ versions_shown older t kept)
+    ensures { ReadsByWhere older (λ db _. IsTaken db (version_text older) (Int kept ∷ []))
+        (λ t rows. map (said_at 4) rows.items ≡ versions_shown older t kept)
         (D.state conn.old) (D.state conn.new) result }
 {
     rows_by_one(conn, older.version_text(), kept)
@@ -45,7 +50,8 @@ pub fn version_rows<D: Readable>(
 /// # Errors
 /// The store refused, or memory ran out.
 pub fn entry_rows<D: Readable>(conn: &mut D, version: i64) -> Result<Vec<Row>, ReadFault>
-    ensures { ReadsOld (λ t rows. map (said_at 5) rows.items ≡ entries_shown t version)
+    ensures { ReadsOldWhere (λ db _. IsTaken db entry_text (Int version ∷ []))
+        (λ t rows. map (said_at 5) rows.items ≡ entries_shown t version)
         (D.state conn.old) (D.state conn.new) result }
 {
     rows_by_one(
@@ -60,7 +66,8 @@ pub fn entry_rows<D: Readable>(conn: &mut D, version: i64) -> Result<Vec<Row>, R
 /// # Errors
 /// The store refused, or memory ran out.
 pub fn entry_places<D: Readable>(conn: &mut D, version: i64) -> Result<Vec<Row>, ReadFault>
-    ensures { ReadsOld (λ t rows. rows.items ≡ entry_places_shown t version)
+    ensures { ReadsOldWhere (λ db _. IsTaken db entry_place_text (Int version ∷ []))
+        (λ t rows. rows.items ≡ entry_places_shown t version)
         (D.state conn.old) (D.state conn.new) result }
 {
     rows_by_one(
@@ -75,7 +82,8 @@ pub fn entry_places<D: Readable>(conn: &mut D, version: i64) -> Result<Vec<Row>,
 /// # Errors
 /// The store refused, or memory ran out.
 pub fn signature_rows<D: Readable>(conn: &mut D, version: i64) -> Result<Vec<Row>, ReadFault>
-    ensures { ReadsOld (λ t rows. map (said_at 3) rows.items ≡ signatures_shown t version)
+    ensures { ReadsOldWhere (λ db _. IsTaken db signature_text (Int version ∷ []))
+        (λ t rows. map (said_at 3) rows.items ≡ signatures_shown t version)
         (D.state conn.old) (D.state conn.new) result }
 {
     rows_by_one(
@@ -90,7 +98,8 @@ pub fn signature_rows<D: Readable>(conn: &mut D, version: i64) -> Result<Vec<Row
 /// # Errors
 /// The store refused, or memory ran out.
 pub fn signature_places<D: Readable>(conn: &mut D, version: i64) -> Result<Vec<Row>, ReadFault>
-    ensures { ReadsOld (λ t rows. rows.items ≡ signature_places_shown t version)
+    ensures { ReadsOldWhere (λ db _. IsTaken db signature_place_text (Int version ∷ []))
+        (λ t rows. rows.items ≡ signature_places_shown t version)
         (D.state conn.old) (D.state conn.new) result }
 {
     rows_by_one(

@@ -7,9 +7,9 @@ use Rattle.lab_records_kept.specs.Dual.{IsDual}
 use Rattle.lab_records_kept.specs.Limits.{IsWithin}
 use Rattle.lab_store_tables.specs.Rows.{tables_in}
 use Rattle.lab_store_tables.specs.Held.{IsTyped}
-use Rattle.lab_store_laws.proofs.DeskStays.{desk_stays_at_placing}
-use Rattle.lab_move_laws.specs.Placings.{PlacesByRules}
-use Rattle.lab_move_laws.proofs.LabPlaced.{lab_is_placed, rows_are_placed}
+use Rattle.lab_store_tables.proofs.DeskStays.{desk_stays_at_placing}
+use Rattle.lab_move_write.specs.Placings.{PlacesByRules}
+use Rattle.lab_move_write.proofs.LabPlaced.{lab_is_placed, rows_are_placed}
 use Rattle.lab_move_write.specs.Carrying.{Carries}
 
 pub carries : (lab : Lab) → IsWithin lab → IsBound lab → IsDual lab → (was db : Database)

@@ -8,9 +8,9 @@ use Rattle.lab_records_kept.specs.declared.labs.Lab.{Lab}
 use Rattle.lab_store_tables.specs.Rows.{tables_in}
 use Rattle.lab_store_tables.specs.Held.{IsTyped}
 use Rattle.lab_store_tables.specs.Ready.{IsAtRest, IsMadeBy}
-use Rattle.lab_move_laws.specs.Placings.{PlacesByRules}
-use Rattle.lab_move_files.specs.Commits.{MakesAtOnce}
-use Rattle.lab_move_files.proofs.Commits.{given_up}
+use Rattle.lab_move_write.specs.Placings.{PlacesByRules}
+use Rattle.lab_move_write.specs.Commits.{MakesAtOnce}
+use Rattle.lab_move_write.proofs.Commits.{given_up}
 
 abbrev pub PlacesIn : Lab → Database → Database → Type 0
 PlacesIn lab was db = IsTyped was → IsTyped db × PlacesByRules lab (tables_in was.trees) (tables_in db.trees)

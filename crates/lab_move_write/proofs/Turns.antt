@@ -17,9 +17,9 @@ use Rattle.lab_store_tables.specs.Changes.{InTurn}
 use Rattle.lab_store_tables.specs.Placing.{unasked, is_asked_for}
 use Rattle.lab_store_tables.specs.Held.{IsTyped}
 use Rattle.lab_store_tables.specs.Ready.{tables_of}
-use Rattle.lab_store_laws.specs.ByRules.{IsByRules}
-use Rattle.lab_store_laws.specs.Steps.{AppliesWhereKept, StepsBy}
-use Rattle.lab_store_laws.proofs.KeptByRules.{ids_by_order, keys_by_rules, arrows_by_rules}
+use Rattle.lab_store_tables.specs.ByRules.{IsByRules}
+use Rattle.lab_store_tables.specs.Steps.{AppliesWhereKept, StepsBy}
+use Rattle.lab_store_tables.proofs.KeptByRules.{ids_by_order, keys_by_rules, arrows_by_rules}
 use Rattle.lab_store_write.specs.Calls.{Steps, Writes}
 use Rattle.lab_store_write.specs.Causes.{FailsBy}
 use Rattle.lab_store_write.proofs.Writers.{nothing_done, stays_then}

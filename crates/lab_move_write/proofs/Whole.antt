@@ -15,14 +15,14 @@ use Rattle.lab_store_tables.specs.Changes.{InTurn}
 use Rattle.lab_store_tables.specs.Placing.{unasked, is_asked_for}
 use Rattle.lab_store_tables.specs.Held.{IsTyped}
 use Rattle.lab_store_tables.specs.Ready.{tables_of}
-use Rattle.lab_store_laws.specs.ByRules.{IsByRules}
-use Rattle.lab_store_laws.specs.Steps.{StepsBy}
+use Rattle.lab_store_tables.specs.ByRules.{IsByRules}
+use Rattle.lab_store_tables.specs.Steps.{StepsBy}
 use Rattle.lab_store_write.specs.declared.statements.RowId.{RowId}
 use Rattle.lab_store_write.specs.Calls.{AnswersUnless, Steps, WritesUnless}
 use Rattle.lab_store_write.proofs.Writers.{stays_then}
 use Rattle.lab_store_write_changes.proofs.Failures.{failed_so, failed_behind}
 use Rattle.lab_store_write_changes.specs.NewbornRows.{AddsLab}
-use Rattle.lab_move_laws.specs.Placings.{whole_changes, PlacesByRules}
+use Rattle.lab_move_write.specs.Placings.{whole_changes, PlacesByRules}
 use Rattle.lab_move_write.specs.Turns.{MakesInTurn}
 use Rattle.lab_move_write.proofs.Turns.{rules_of, made_then, changes_as}
 

@@ -7,7 +7,7 @@ use Rattle.lab_records_kept.specs.declared.labs.Lab.{Lab}
 use Rattle.lab_records_keeper.specs.Worlds.{Places}
 use Rattle.lab_store_tables.specs.Rows.{tables_in}
 use Rattle.lab_store_tables.specs.Meaning.{meaning}
-use Rattle.lab_move_files.specs.Unfinished.{IsBeingFilled}
+use Rattle.lab_move_write.specs.Unfinished.{IsBeingFilled}
 
 abbrev pub Carries : Lab → Database → Database → Type 0
 Carries lab was db =

@@ -1,2 +1,8 @@
-pub mod Turns
 pub mod Carrying
+pub mod Causes
+pub mod Commits
+pub mod Namings
+pub mod Placings
+pub mod Tables
+pub mod Turns
+pub mod Unfinished

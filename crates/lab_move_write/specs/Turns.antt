@@ -8,7 +8,7 @@ use Rattle.sqlite.specs.State.{State, HasCleanDisk}
 use Rattle.lab_records_kept.specs.declared.changes.Change.{Change}
 use Rattle.lab_store_tables.specs.Changes.{InTurn}
 use Rattle.lab_store_tables.specs.Held.{IsTyped}
-use Rattle.lab_store_laws.specs.Steps.{StepsBy}
+use Rattle.lab_store_tables.specs.Steps.{StepsBy}
 use Rattle.lab_store_write.specs.Calls.{Stays, Steps, FailsFor}
 
 pub record MakesInTurn {T A : Type 0} (lender : T → ℕ × ℕ) (state : T → State) (lab : ℤ)

@@ -5,16 +5,15 @@ ghost use Rattle.lab_records_kept.specs.declared.changes.Change.TheVariants.{Per
 ghost use Rattle.lab_store_tables.specs.Placing.{unasked as bare, is_asked_for};
 ghost use Rattle.lab_store_tables.specs.Changes.{AddsPerson};
 ghost use Rattle.lab_store_write.specs.Calls.{Writes};
-ghost use Rattle.lab_move_laws.specs.Placings.{whole_changes};
+ghost use Rattle.lab_move_write.specs.Placings.{whole_changes};
 ghost use Rattle.lab_move_write.specs.Turns.{MakesInTurn};
 
 use crate::progress::MoveProgress;
 use lab_forms_texts::OutOfMemory;
 use lab_people_access::{Person, Session};
 use lab_records_kept::{FormVersion, Lab, Record, TrailRow};
-use lab_store_write::{RowId, Writable, add_told};
-use lab_store_write_people::{add_person, add_session, set_person};
-use lab_store_write_records::{add_form, add_record};
+use lab_store_write::{RowId, Writable, add_person, add_session, add_told, set_person};
+use lab_store_write_changes::{add_form, add_record};
 use sqlite::{Error, ErrorCode};
 
 // The person before anything was asked for. The only error is out of memory.

@@ -11,14 +11,14 @@ ghost use Rattle.lab_store_read.specs.Cells.{storage};
 ghost use Rattle.lab_store_write.specs.Calls.{FailsFor, Steps, WritesUnless};
 ghost use Rattle.lab_store_write.specs.Causes.{IsTooGreat};
 ghost use Rattle.lab_store_write.specs.Transactions.{EndsForCause, TransactionEndsForCause};
-ghost use Rattle.lab_move_files.specs.Commits.{MakesAtOnce};
-ghost use Rattle.lab_move_laws.specs.Placings.{PlacesByRules};
+ghost use Rattle.lab_move_write.specs.Commits.{MakesAtOnce};
+ghost use Rattle.lab_move_write.specs.Placings.{PlacesByRules};
 ghost use Rattle.lab_move_write.specs.Carrying.{Carries};
 
+use crate::Inside;
 use crate::kinds::add_kinds;
 use crate::progress::MoveProgress;
 use crate::rows::add_lab;
-use lab_move_files::Inside;
 use lab_records_kept::Lab;
 use lab_store_read::{ReadFault, read_fault};
 use lab_store_write::Writable;

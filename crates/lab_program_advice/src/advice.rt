@@ -36,7 +36,7 @@ pub fn write_advice<W: Write>(
         Trouble::Moving(path, new, fault) => write_of_move(errors, path, new, fault),
         Trouble::Unsound(path, lab, new) => writeln!(
             errors,
-            "What {path} holds of {lab} isn't what a labdesk wrote: put a backup in its place, and remove {new} before the next try."
+            "{lab} in {path} isn't as labdesk wrote it: put a backup in its place, and remove {new} before the next try."
         ),
         Trouble::Opening(_, OpenFault::Drawing)
         | Trouble::Old(_, _, OpenFault::Drawing)
@@ -52,7 +52,7 @@ pub fn write_advice<W: Write>(
         Trouble::AtPort(port) => write_of_port(rt, errors, port),
         Trouble::OfCode(text) => writeln!(
             errors,
-            "{text:?} is no laboratory's code: 1 to 12 of a to z, 0 to 9 and '-', a letter first."
+            "{text:?} isn't a laboratory's code: 1 to 12 letters a to z, digits and '-', the first a letter."
         ),
         Trouble::Flawed(word, row) => write_of_flaw(rt, errors, word, row),
         Trouble::FoundingAwaited | Trouble::CopyAwaited | Trouble::EventsAwaited => {
@@ -93,11 +93,11 @@ fn write_of_port<W: Write>(rt: &HostRuntime, errors: &mut W, port: u16) -> io::R
     match TcpListener::bind(rt, address) {
         Err(error) if error.kind() == ErrorKind::PermissionDenied => writeln!(
             errors,
-            "Port {port} may not be listened at by this user: take one from 1024 on. --port 0 takes any that is free."
+            "This user may not listen at port {port}: take one from 1024 on. --port 0 takes any free port."
         ),
         _ => writeln!(
             errors,
-            "Port {port} can't be listened at; perhaps another program has it. --port 0 takes any that is free."
+            "labdesk can't listen at port {port}; perhaps another program has it. --port 0 takes any free port."
         ),
     }
 }
@@ -144,7 +144,7 @@ fn write_of_old<W: Write>(
         }
         FileFault::Storage if File::open(rt, path).is_ok() => writeln!(
             errors,
-            "{path} can't be copied beside {new}: look whether another program holds {path} (a server that runs), whether the folder of {new} may be written, and whether its disk is full."
+            "{path} can't be copied beside {new}: check that no other program holds {path} (a running server), that the folder of {new} can be written, and that its disk isn't full."
         ),
         _ => write_of_file(rt, errors, path, fault),
     }
@@ -209,7 +209,7 @@ fn write_of_founding<W: Write>(
 // Writes the advice for a file that isn't one of laboratories, by what lies at the path.
 fn write_of_kind<W: Write>(rt: &HostRuntime, errors: &mut W, path: &str) -> io::Result<()> {
     match fs::metadata(rt, path) {
-        Ok(found) if !found.is_file() => writeln!(errors, "{path} is no regular file."),
+        Ok(found) if !found.is_file() => writeln!(errors, "{path} isn't a regular file."),
         Ok(_) => writeln!(
             errors,
             "{path} holds no laboratories, or is damaged: look at the path, or put a backup in its place."
@@ -226,14 +226,14 @@ fn write_of_storage<W: Write>(rt: &HostRuntime, errors: &mut W, path: &str) -> i
     if fs::metadata(rt, path).is_err() {
         writeln!(
             errors,
-            "{path} can't be made: look whether its folder is there, and may be written."
+            "{path} can't be made: check that its folder exists and can be written."
         )
     } else if File::open(rt, path).is_err() {
-        writeln!(errors, "{path} may not be read by this user.")
+        writeln!(errors, "This user may not read {path}.")
     } else {
         writeln!(
             errors,
-            "{path} can't be used: look whether another program holds it (a server that runs), whether you may write it and its folder, and whether the disk is full."
+            "{path} can't be used: check that no other program holds it (a running server), that you may write it and its folder, and that the disk isn't full."
         )
     }
 }

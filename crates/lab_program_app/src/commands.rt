@@ -36,8 +36,8 @@ const MIGRATING: &str =
     "It moves every laboratory of an old file, which has schema 2, into a new file, and prints
 `migrated` and the number of laboratories. Versions keep their texts, digests and signatures. It
 reads the old file with its log, and leaves the old file as it is, byte for byte. It makes the new
-file; a file that is already there must be empty. If the move fails, the new file stays, and no
-command opens it. docs/FORMATS.md describes the move. An example:
+file; a file that is already there must be empty. If the move fails, delete the new file before
+you try again. docs/FORMATS.md describes the move. An example:
 
     labdesk migrate --old laboratories --new laboratories-3";
 

@@ -9,7 +9,7 @@ use Rattle.lab_records_kept.specs.declared.changes.Change.{Change}
 use Rattle.lab_records_keeper.specs.Worlds.{World}
 use Rattle.lab_store_tables.specs.Ready.{tables_of}
 use Rattle.lab_store_tables.specs.Placing.{PlacesLab}
-use Rattle.lab_store_laws.specs.Steps.{AreMadeIfAny}
+use Rattle.lab_store_tables.specs.Steps.{AreMadeIfAny}
 use Rattle.lab_store.specs.Causes.{RefusesCommit, RefusesLoad, RefusesNewborn}
 use Rattle.lab_store.specs.StoreWorlds.{world_of}
 

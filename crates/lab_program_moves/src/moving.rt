@@ -11,7 +11,7 @@ ghost use Rattle.lab_program_moves.specs.Moves.{IsAsked, IsMigration, MovesTo, P
 
 use lab_forms_streams::{WriteFault, write_whole};
 use lab_forms_texts::{LabCode, OutOfMemory};
-use lab_move::{MoveFault, MoveProgress, OldFile};
+use lab_move::{MoveEnd, MoveFault, MoveProgress, OldFile};
 use lab_program_host::{Host, ServerFault, tell};
 use lab_program_opening::{
     Closable, Ended, Finished, OpenFault, Trouble, Volume, decline, decline_by, open_new, open_old,
@@ -49,12 +49,11 @@ fn old_file<H: Volume>(
         ⊎ IsOfFile (RefusesOld H.Disk.Store (H.file volume.old path.now).holds) fault) }
 {
     let conn = open_old(alloc, volume, path, new)?;
-    let mut file = OldFile { conn };
-    match lab_move::open_old(&mut file) {
-        Ok(_) => Ok(file),
-        Err(fault) => {
+    match lab_move::open_old(conn) {
+        Ok(file) => Ok(file),
+        Err(unopened) => {
             volume.leave_new();
-            Err(OpenFault::File(fault))
+            Err(OpenFault::File(unopened.fault))
         }
     }
 }
@@ -148,9 +147,9 @@ fn count_moved<H: Volume>(
     requires blank { IsBlank (state H.Disk.Store new).now }
     ensures { MovesTo H.Disk.Store old.conn new result.ending result.finished }
 {
-    let (mut old, mut new) = (old, new);
+    let mut new = new;
     let mut teller = Teller { volume };
-    let ending = lab_move::migrate(alloc, &mut old, &mut new, &mut teller);
+    let MoveEnd { ending, left: _ } = lab_move::migrate(alloc, old, &mut new, &mut teller);
     let Teller { volume: _ } = teller;
     Ended {
         ending,

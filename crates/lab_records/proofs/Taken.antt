@@ -9,7 +9,7 @@ use Rattle.lab_records_kept.specs.declared.needs.Slice.{Slice}
 use Rattle.lab_records_machine.specs.declared.commands.SessionCommand.{SessionCommand}
 use Rattle.lab_records_machine.specs.declared.passages.Passage.{Passage}
 use Rattle.lab_records_machine.specs.Done.{opened_done, done_on_account, done_on_record, done_reading}
-use Rattle.lab_records_outcomes.specs.Deciding.{decided_in}
+use Rattle.lab_records_laws.specs.Deciding.{decided_in}
 use Rattle.lab_records.specs.Makings.{is_refusal}
 
 abbrev pub bare : Slice → Slice

@@ -18,7 +18,7 @@ use Rattle.lab_records_machine.specs.Machine.{passage}
 use Rattle.lab_records_machine.specs.declared.done.Done.{Done}
 use Rattle.lab_records_machine.specs.declared.done.Done.TheVariants.{Refused, Failed, Read, Made}
 use Rattle.lab_records_machine.specs.Done.{opened_done, done_of}
-use Rattle.lab_records_outcomes.specs.Deciding.{is_noted, IsWritten}
+use Rattle.lab_records_laws.specs.Deciding.{is_noted, IsWritten}
 
 abbrev pub is_refusal : Done → Bool
 is_refusal (Refused refusal) = true

@@ -5,17 +5,15 @@ ghost use Rattle.lab_people_access.specs.Sessions.{touched_session};
 ghost use Rattle.lab_records_machine.specs.Done.{done_of};
 ghost use Rattle.lab_records_machine.specs.Machine.{passage};
 ghost use Rattle.lab_records_machine.specs.Policy.{rule_of};
-ghost use Rattle.lab_records_outcomes.specs.Deciding.{outcome, end_on, is_noted, noted_end, decided_in, decided_by, decided};
+ghost use Rattle.lab_records_laws.specs.Deciding.{outcome, end_on, is_noted, noted_end, decided_in, decided_by, decided};
 ghost use Rattle.lab_records.specs.Makings.{is_made_in, is_made_by, is_made, MakesInSession};
 
 use crate::{done_of, opening_done};
 use lab_forms_texts::{Moment, OutOfMemory, PersonCode, Series, Tick};
 use lab_people_access::{PeopleRefusal, Person, Session};
 use lab_records_kept::Slice;
+use lab_records_laws::{Outcome, end, failed_opening, made_opening, noted_end, refusal_outcome};
 use lab_records_machine::{Command, Done, Passage, RecordCommand, Reply, SessionCommand, pass};
-use lab_records_outcomes::{
-    Outcome, end, failed_opening, made_opening, noted_end, refusal_outcome,
-};
 use lab_records_rules::{Refusal, Typed};
 use std::alloc::Global;
 

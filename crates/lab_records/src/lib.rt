@@ -18,11 +18,11 @@ pub use lab_records_kept::{
     Change, EntryRow, FormVersion, FormWanted, FoundRecord, Lab, LabCounts, ListWanted, Need,
     Newborn, Record, RecordWanted, Signature, Slice, TrailRow, Version,
 };
+pub use lab_records_laws::Outcome;
 pub use lab_records_machine::{
     AccountCommand, BirthRefusal, Command, Founder, Founding, Instruction, ReadingCommand,
     RecordCommand, Reply, SessionCommand, needs,
 };
-pub use lab_records_outcomes::Outcome;
 pub use lab_records_rules::{
     CommandFault, Item, PersonLine, RecordRead, RecordState, Refusal, Signing, VersionRead,
     VersionState,

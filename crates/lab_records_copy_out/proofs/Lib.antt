@@ -8,4 +8,5 @@ pub mod ReadLemmas
 pub mod LimitLemmas
 pub mod EachLemmas
 pub mod LegibleLemmas
+pub mod KnownCauses
 pub mod KnownValues

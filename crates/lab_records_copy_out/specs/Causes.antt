@@ -4,7 +4,7 @@ use Rattle.std.specs.Prelude.{◌≡◌, ◌≤◌, ◌⊎◌, ℕ, List, None, 
 use Rattle.lab_forms_texts.specs.Ordinals.{ordinal_of}
 use Rattle.lab_records_kept.specs.declared.needs.RecordWanted.TheVariants.{Numbered}
 use Rattle.lab_records_keeper.specs.declared.keeper.Keeper.{Ghosts}
-use Rattle.lab_records_keeper.specs.Worlds.{Given}
+use Rattle.lab_records_keeper.specs.Worlds.{Given, Passes}
 use Rattle.lab_records_copy_out.specs.Resting.{IsOnlyRead}
 use Rattle.lab_records_copy_out.specs.Walks.{record_need}
 
@@ -20,6 +20,8 @@ module _ {S : Type 0} (keeper : Ghosts S) where
     pub within : number ≤ last
     pub mid : S
     pub read : IsOnlyRead keeper.world keeper.rests old mid
+    -- an honest end makes the state between honest
+    pub passes : Passes (keeper.world mid) (keeper.world new)
     pub refused : keeper.refuses_load mid new code
         (record_need (option_map (λ (one : ℕ). Numbered one) (ordinal_of number)))
 
@@ -32,6 +34,7 @@ module _ {S : Type 0} (keeper : Ghosts S) where
     pub its : Given (keeper.world old) (keeper.world mid) (named ≡ code)
     pub last : ℕ
     pub within : last ≤ to
+    pub passes : Passes (keeper.world mid) (keeper.world new)
     pub refused : records mid new named from last
 
   -- a copy was refused

@@ -17,7 +17,7 @@ use Rattle.lab_records_kept.specs.Changes.{IsKnown, Fits, AllFit, change, change
 use Rattle.lab_records_machine.specs.Cases.{told, told_if_room, failed}
 use Rattle.lab_records_laws.proofs.FitAttempts.{FitsAttempt}
 use Rattle.lab_records_laws.proofs.LimitLists.{longer}
-use Rattle.lab_records_outcomes.specs.Deciding.{trail_row, trail_row_if_room, trail_rows_if_room, failure_changes}
+use Rattle.lab_records_laws.specs.Deciding.{trail_row, trail_row_if_room, trail_rows_if_room, failure_changes}
 use Rattle.lab_records_laws.proofs.Joining.{set_known, change_knows}
 
 -- changes make another laboratory of one, and fit on a premise

@@ -1,8 +1,10 @@
+mod KnownParts
 pub mod BirthLemmas
 pub mod BoundLemmas
 pub mod CaseFits
+pub mod Cases
 pub mod DualLemmas
-pub mod Endings
+pub mod EndLemmas
 pub mod Failing
 pub mod FitAccounts
 pub mod FitAttempts
@@ -20,7 +22,8 @@ pub mod KeepPersons
 pub mod KeepRecords
 pub mod KeepSteps
 pub mod KnownLaws
-mod KnownParts
+pub mod KnownTelling
+pub mod KnownValues
 pub mod LimitCases
 pub mod LimitForms
 pub mod LimitKept
@@ -34,8 +37,10 @@ pub mod LimitRules
 pub mod LimitSteps
 pub mod Noting
 pub mod OpenFits
+pub mod Others
 pub mod OwnCases
 pub mod Passing
+pub mod Rooms
 pub mod RuleCases
 pub mod RuleFits
 pub mod RunLemmas
@@ -43,8 +48,4 @@ pub mod SigningFrame
 pub mod SigningStates
 pub mod SigningStep
 pub mod StayLemmas
-pub mod Rooms
-pub mod Cases
-pub mod KnownTelling
-pub mod Others
 pub mod Steps

@@ -22,8 +22,8 @@ use Rattle.lab_records_machine.specs.Machine.{passage}
 use Rattle.lab_records_machine.specs.declared.done.Done.{Done}
 use Rattle.lab_records_machine.specs.declared.done.Done.TheVariants.{Refused, Failed, Read, Made}
 use Rattle.lab_records_machine.specs.Done.{opened_done, done_of}
-use Rattle.lab_records_outcomes.specs.declared.outcome.Outcome.{Outcome}
-use Rattle.lab_records_outcomes.specs.Deciding.{trail_row, outcome, end_on, touch_changes, is_noted, noted_end, opening_end, decided_in, decided_by, decided}
+use Rattle.lab_records_laws.specs.declared.outcome.Outcome.{Outcome}
+use Rattle.lab_records_laws.specs.Deciding.{trail_row, outcome, end_on, touch_changes, is_noted, noted_end, opening_end, decided_in, decided_by, decided}
 use Rattle.lab_records_laws.specs.TakenSteps.{NotesFirst}
 
 abbrev IsNoted : ℕ → Outcome → Type 0

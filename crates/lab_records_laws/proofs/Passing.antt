@@ -31,13 +31,13 @@ use Rattle.lab_records_laws.specs.Asking.{IsCommandFormed}
 use Rattle.lab_records_laws.proofs.FitAccounts.{own_code}
 use Rattle.lab_records_laws.proofs.LimitParts.{session_set, session_token}
 use Rattle.lab_records_machine.specs.Done.{done_of, opened_done}
-use Rattle.lab_records_outcomes.specs.declared.outcome.Outcome.{Outcome}
-use Rattle.lab_records_outcomes.specs.Deciding.{outcome, end_on, noted_end, opening_end, decided_in, decided_by, decided}
+use Rattle.lab_records_laws.specs.declared.outcome.Outcome.{Outcome}
+use Rattle.lab_records_laws.specs.Deciding.{outcome, end_on, noted_end, opening_end, decided_in, decided_by, decided}
 use Rattle.lab_records_laws.proofs.OwnCases.{slice_for, opened_is}
 use Rattle.lab_records_laws.proofs.RuleCases.{own_is}
 use Rattle.lab_records_laws.proofs.RuleFits.{own_fits}
 use Rattle.lab_records_laws.proofs.OpenFits.{open_fits, opened_takes}
-use Rattle.lab_records_laws.proofs.Endings.{Matches, noted_is, ended_is, opened_ended}
+use Rattle.lab_records_laws.proofs.EndLemmas.{Matches, noted_is, ended_is, opened_ended}
 
 -- no more strays were counted than may be, and a form that is to be made is one
 abbrev Premise : Lab → Command → Type 0

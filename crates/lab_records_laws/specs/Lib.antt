@@ -1,5 +1,6 @@
 pub mod Asking
 pub mod Births
+pub mod Deciding
 pub mod Inspections
 pub mod Runs
 pub mod Stepping

@@ -9,7 +9,7 @@ use Rattle.lab_records_kept.specs.Limits.{stray_limit}
 use Rattle.lab_records_machine.specs.declared.commands.Instruction.{Instruction}
 use Rattle.lab_records_machine.specs.Machine.{step}
 use Rattle.lab_records_laws.specs.Asking.{IsCommandFormed}
-use Rattle.lab_records_outcomes.specs.declared.outcome.Outcome.{Outcome}
+use Rattle.lab_records_laws.specs.declared.outcome.Outcome.{Outcome}
 
 -- where there are changes, the first of them notes the moment
 abbrev pub NotesFirst : ℕ → List Change → Type 0

@@ -4,7 +4,7 @@ ghost use Rattle.lab_records_kept.specs.declared.labs.Lab.{Lab};
 ghost use Rattle.lab_records_kept.specs.Parts.{part};
 ghost use Rattle.lab_records_machine.specs.declared.commands.Instruction.{Instruction};
 ghost use Rattle.lab_records_machine.specs.Needs.{need_of};
-ghost use Rattle.lab_records_outcomes.specs.Deciding.{decided};
+ghost use Rattle.lab_records_laws.specs.Deciding.{decided};
 ghost use Rattle.lab_records_laws.specs.TakenSteps.{TakesStep};
 
 /// Law: what is decided on the part that an instruction needs, of any laboratory, has the reply of

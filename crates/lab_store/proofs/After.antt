@@ -13,7 +13,7 @@ use Rattle.lab_store_tables.proofs.Shutting.{shuts_on}
 use Rattle.lab_store_load.specs.declared.counts.Counted.{Counted}
 use Rattle.lab_store_load.specs.Counts.{IsCounted}
 use Rattle.lab_store.specs.Counting.{IsKeeping}
-use Rattle.lab_store_laws.specs.Steps.{StepsBy, AreMade, AreMadeIfAny}
+use Rattle.lab_store_tables.specs.Steps.{StepsBy, AreMade, AreMadeIfAny}
 use Rattle.lab_store.specs.Commits.{EndsStep}
 
 module _ (code : List ℕ) (changes : List Change) (old middle new : State) (ready : IsReady old) (passes : PassesBy old middle) (same : HasCleanDisk middle → IsUnchanged old middle)

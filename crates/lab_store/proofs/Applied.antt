@@ -14,10 +14,10 @@ use Rattle.lab_store_tables.specs.Meaning.{meaning}
 use Rattle.lab_store_tables.specs.WellKept.{IsWellKept, is_desk}
 use Rattle.lab_store_tables.specs.Held.{AreRising}
 use Rattle.lab_store_tables.specs.Ready.{IsReady}
-use Rattle.lab_store_laws.proofs.DeskStays.{desk_stays_at_placing}
-use Rattle.lab_store_laws.proofs.Founded.{founded_is_placed}
-use Rattle.lab_store_laws.specs.Steps.{AreMadeIfAny}
-use Rattle.lab_store_laws.proofs.AllChanges.{rows_changed}
+use Rattle.lab_store_tables.proofs.DeskStays.{desk_stays_at_placing}
+use Rattle.lab_store_tables.proofs.Founded.{founded_is_placed}
+use Rattle.lab_store_tables.specs.Steps.{AreMadeIfAny}
+use Rattle.lab_store_tables.proofs.AllChanges.{rows_changed}
 use Rattle.lab_store.specs.Commits.{EndsStep}
 use Rattle.lab_store.specs.Commits as founding
 use Rattle.lab_store.specs.Founding.{IsPlacedBy}

@@ -10,8 +10,8 @@ use Rattle.lab_store_tables.specs.Rows.{Tables}
 use Rattle.lab_store_tables.specs.Meaning.{has_code}
 use Rattle.lab_store_tables.specs.Changes.{InTurn, AddsPerson, SetsPerson}
 use Rattle.lab_store_tables.specs.Placing.{lab_row_of, put_lab, unasked, is_asked_for, PlacesLab}
-use Rattle.lab_store_laws.proofs.CodeOrder.{all_founders}
-use Rattle.lab_store_laws.proofs.Enrolments.{AreUnasked}
+use Rattle.lab_store_tables.proofs.CodeOrder.{all_founders}
+use Rattle.lab_store_tables.proofs.Enrolments.{AreUnasked}
 use Rattle.lab_store_write_changes.specs.Newborns.{is_asked}
 use Rattle.lab_store_write_changes.specs.NewbornRows.{AddsRows}
 use Rattle.lab_store.specs.Founding.{IsPlacedBy}

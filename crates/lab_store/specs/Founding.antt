@@ -6,7 +6,7 @@ use Rattle.lab_store_tables.specs.Rows.{Tables}
 use Rattle.lab_store_tables.specs.Held.{AreRising}
 use Rattle.lab_store_tables.specs.Meaning.{meaning}
 use Rattle.lab_store_tables.specs.Ready.{LeavesNoMore, tables_of}
-use Rattle.lab_store_laws.specs.Founding.{PlacesNewborn}
+use Rattle.lab_store_tables.specs.Founding.{PlacesNewborn}
 
 -- the newborn laboratory is placed, and ids rise
 pub record IsPlacedBy (newborn : Newborn) (old new : Tables) : Type 0 where

@@ -11,7 +11,7 @@ use Rattle.lab_records_keeper.specs.Worlds.{Meaning, SameMeaning}
 use Rattle.lab_store_tables.specs.Rows.{LabRow, Tables, tables_in}
 use Rattle.lab_store_tables.specs.Meaning.{lab_in, has_code, meaning}
 use Rattle.lab_store_tables.specs.Ready.{IsKept}
-use Rattle.lab_store_laws.specs.Steps.{AreMadeIfAny}
+use Rattle.lab_store_tables.specs.Steps.{AreMadeIfAny}
 
 own_code_by : (t : Tables) (code : List ℕ) (found : Option LabRow) (lab : Lab) →
     find (has_code code) t.labs ≡ found → option_map (lab_in t) found ≡ Some lab → lab.code ≡ code

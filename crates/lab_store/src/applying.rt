@@ -6,7 +6,7 @@ ghost use Rattle.sqlite.specs.Effect.{IsDatabase};
 ghost use Rattle.sqlite.specs.State.{HasCleanDisk, IsUnchanged, KeepsCommit, Survives};
 ghost use Rattle.lab_store_tables.specs.Changes.{InTurn};
 ghost use Rattle.lab_store_tables.specs.Ready.{IsAtRest, IsReady, LeavesNoMore};
-ghost use Rattle.lab_store_laws.specs.Steps.{StepsBy, AreMadeIfAny};
+ghost use Rattle.lab_store_tables.specs.Steps.{StepsBy, AreMadeIfAny};
 ghost use Rattle.lab_store_write.specs.Calls.{FailsFor, Steps};
 ghost use Rattle.lab_store_write_changes.specs.Causes.{OneIsTooMuch};
 ghost use Rattle.lab_store.specs.Causes.{ChangesHaveTheirCause, TransactionHasItsCause};

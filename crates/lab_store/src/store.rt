@@ -178,7 +178,7 @@ impl<S: Alter> Keeper for Store<S> {
     ghost use Rattle.sqlite.specs.Held.{state};
     ghost use Rattle.lab_store_tables.specs.Ready.{tables_of};
     ghost use Rattle.lab_store_tables.specs.Placing.{PlacesLab};
-    ghost use Rattle.lab_store_laws.specs.Steps.{AreMadeIfAny};
+    ghost use Rattle.lab_store_tables.specs.Steps.{AreMadeIfAny};
     ghost use Rattle.lab_store.specs.Causes.{RefusesCommit, RefusesLoad, RefusesNewborn};
     ghost use Rattle.lab_store.specs.StoreWorlds.{world_of};
     ghost use Rattle.lab_store.specs.StoreLaws.{own_code, own_code_left, made_after_rest};

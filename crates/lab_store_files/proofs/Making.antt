@@ -35,7 +35,7 @@ use Rattle.lab_store_tables.specs.Family.{Desk, empty_tables}
 use Rattle.lab_store_tables.specs.WellKept.{IsWellKept}
 use Rattle.lab_store_tables.specs.Ready.{IsKept}
 use Rattle.lab_store_tables.proofs.Tests.{kept_by_tests}
-use Rattle.lab_store_laws.proofs.Tables.{AreSpared, stored_with, rising_with, none_stored, none_rising, held_if_stored}
+use Rattle.lab_store_tables.proofs.Tables.{AreSpared, stored_with, rising_with, none_stored, none_rising, held_if_stored}
 use Rattle.lab_store_files.specs.declared.tables.LabTable.{LabTable}
 use Rattle.lab_store_files.specs.Tables.{own_table, table_text, all_tables}
 use Rattle.lab_store_files.specs.NewFiles.{no_schema, schema_of, schema_before, schema_with, place_in, IsEmptyUnder, IsNewFile, schema_row, new_tables}

@@ -18,7 +18,7 @@ use Rattle.lab_store_tables.proofs.SheetWords.{insert_text, insert_terms}
 use Rattle.lab_store_tables.specs.Family.{Name, Desk, RowOf, kept, id_of, rows, tables_in, Labs, Persons, Sessions, Forms, Fields, Choices, Records, Versions, Entries, Signatures, Trail}
 use Rattle.lab_store_tables.proofs.FamilyWords.{table_in, values_of, stored_row, put}
 use Rattle.lab_store_tables.specs.Held.{IsTyped}
-use Rattle.lab_store_laws.proofs.Tables.{stored_with, rising_with, held_if_stored}
+use Rattle.lab_store_tables.proofs.Tables.{stored_with, rising_with, held_if_stored}
 use Rattle.lab_store_write.specs.Causes.{IsOurs}
 use Rattle.lab_store_write.proofs.Columns.{cast_new}
 use Rattle.lab_store_write.proofs.Writes.{add_next, next_id, uncounted}

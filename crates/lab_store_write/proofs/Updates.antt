@@ -35,7 +35,7 @@ use Rattle.lab_store_tables.specs.Sheets.{names}
 use Rattle.lab_store_tables.specs.Family.{Name, RowOf, kept, id_of, rows, tables_in}
 use Rattle.lab_store_tables.proofs.FamilyWords.{table_in, tree_of, stored_row, with_rows}
 use Rattle.lab_store_tables.specs.Held.{IsTyped}
-use Rattle.lab_store_laws.proofs.Tables.{stored_with, rising_with, held_if_stored}
+use Rattle.lab_store_tables.proofs.Tables.{stored_with, rising_with, held_if_stored}
 use Rattle.lab_store_read.proofs.Texts.{is_param}
 use Rattle.lab_store_read.proofs.Sorted.{short_permutation, and_true}
 use Rattle.lab_store_write.proofs.Columns.{stays}

@@ -40,7 +40,7 @@ use Rattle.sqlite.specs.Listing.{understood}
 use Rattle.sqlite.specs.State.{State, mode_of, Executes}
 use Rattle.sqlite.proofs.Callers.{IsPlain, command_of, runs_as, one_step, statement_of}
 use Rattle.lab_store_tables.specs.Schema.{lab_schema}
-use Rattle.lab_store_laws.proofs.Tables.{AreSpared}
+use Rattle.lab_store_tables.proofs.Tables.{AreSpared}
 
 -- a part that gave a value did not stop on the way
 went : {B E R : Type 0} {b : B} {Stops : E → Type 0} → ((stop : E) × Stops stop × (Ok b ≡ Err stop)) ⊎ R → R

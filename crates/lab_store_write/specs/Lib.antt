@@ -1,7 +1,10 @@
+pub mod Added
 pub mod Calls
 pub mod Causes
+pub mod Closings
 pub mod Givers
 pub mod Ids
+pub mod Persons
 pub mod Shown
 pub mod TrailAdded
 pub mod Transactions

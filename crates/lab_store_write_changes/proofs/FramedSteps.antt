@@ -13,18 +13,18 @@ use Rattle.lab_store_tables.specs.Changes.{InTurn, asker_of, put_session, sessio
 use Rattle.lab_store_tables.specs.Held.{AreRising, IsTyped}
 use Rattle.lab_store_tables.specs.Ready.{tables_of}
 use Rattle.lab_store_tables.specs.Family.{Labs}
-use Rattle.lab_store_laws.specs.Steps.{AppliesWhereKept, StepsBy}
-use Rattle.lab_store_laws.proofs.KeptLaws.{last_by_rules}
+use Rattle.lab_store_tables.specs.Steps.{AppliesWhereKept, StepsBy}
+use Rattle.lab_store_tables.proofs.KeptLaws.{last_by_rules}
 use Rattle.lab_store_write.specs.declared.named.Giver.{Giver}
 use Rattle.lab_store_write.specs.Calls.{Steps, Finds, MadeFrom}
 use Rattle.lab_store_write.specs.Givers.{Knows}
 use Rattle.lab_store_write.specs.TrailAdded.{with_last, AddsLastTold}
 use Rattle.lab_store_write.proofs.Inside.{steps_weaker, found_then}
-use Rattle.lab_store_laws.proofs.Tables.{rising_with}
+use Rattle.lab_store_tables.proofs.Tables.{rising_with}
 use Rattle.lab_store_write.proofs.TrailAddedLemmas.{named_still}
 use Rattle.lab_store_write_changes.specs.Framed.{spares_last, keeps_giver, StepsKnowing, framed}
 use Rattle.lab_store_write.proofs.Later.{counted_later}
-use Rattle.lab_store_write_records.proofs.Beside.{form_beside, entry_beside, signature_beside, version_beside, record_beside}
+use Rattle.lab_store_write_changes.proofs.Beside.{form_beside, entry_beside, signature_beside, version_beside, record_beside}
 use Rattle.lab_store_write_changes.proofs.Steps.{rules_of}
 
 -- what is made of a step that a call made

@@ -16,17 +16,17 @@ use Rattle.lab_store_tables.specs.Changes.{is_person, person_named, person_row_o
 use Rattle.lab_store_tables.specs.WellKept.{have_own_ids}
 use Rattle.lab_store_tables.specs.Held.{AreRising}
 use Rattle.lab_store_tables.specs.Ready.{tables_of}
-use Rattle.lab_store_laws.specs.Steps.{AppliesWhereKept, StepsBy}
-use Rattle.lab_store_laws.proofs.Bridges.{apart_from_test}
-use Rattle.lab_store_laws.proofs.Ids.{own_ids}
-use Rattle.lab_store_laws.proofs.KeptByRules.{ids_by_order}
-use Rattle.lab_store_laws.proofs.Named.{the_row}
-use Rattle.lab_store_laws.proofs.OneRow.{kept}
+use Rattle.lab_store_tables.specs.Steps.{AppliesWhereKept, StepsBy}
+use Rattle.lab_store_tables.proofs.Bridges.{apart_from_test}
+use Rattle.lab_store_tables.proofs.Ids.{own_ids}
+use Rattle.lab_store_tables.proofs.KeptByRules.{ids_by_order}
+use Rattle.lab_store_tables.proofs.Named.{the_row}
+use Rattle.lab_store_tables.proofs.OneRow.{kept}
 use Rattle.lab_store_write.specs.declared.named.Giver.{Giver}
 use Rattle.lab_store_write.specs.Calls.{Steps, MadeFrom}
 use Rattle.lab_store_write.specs.Givers.{Knows}
 use Rattle.lab_store_write.proofs.Givers.{known_still}
-use Rattle.lab_store_write_records.proofs.Leaving.{form_leaves, record_leaves, version_leaves}
+use Rattle.lab_store_write_changes.proofs.Leaving.{form_leaves, record_leaves, version_leaves}
 use Rattle.lab_store_write.proofs.Inside.{turn_more}
 use Rattle.lab_store_write_changes.specs.Framed.{spares_last, keeps_giver, StepsKnowing}
 use Rattle.lab_store_write_changes.proofs.Steps.{rules_of}

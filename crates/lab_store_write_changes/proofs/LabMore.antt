@@ -22,7 +22,7 @@ use Rattle.lab_store_tables.specs.Changes.{IsFree}
 use Rattle.lab_store_tables.specs.Placing.{lab_row_of, put_lab}
 use Rattle.lab_store_tables.specs.Ready.{tables_of}
 use Rattle.lab_store_tables.specs.Family.{Labs}
-use Rattle.lab_store_laws.proofs.Tables.{held_if_stored, stored_with, rising_with}
+use Rattle.lab_store_tables.proofs.Tables.{held_if_stored, stored_with, rising_with}
 use Rattle.lab_store_write.specs.Calls.{Steps}
 use Rattle.lab_store_write.specs.Causes.{IsOurs}
 use Rattle.lab_store_write.proofs.Writes.{cast_int, cast_null, add_next, next_id}

@@ -10,12 +10,12 @@ use Rattle.lab_store_tables.specs.Rows.{Tables, tables_in}
 use Rattle.lab_store_tables.specs.Held.{IsTyped}
 use Rattle.lab_store_tables.specs.Ready.{tables_of}
 use Rattle.lab_store_tables.specs.Family.{Persons}
-use Rattle.lab_store_laws.proofs.KeptByRules.{ids_by_order, keys_by_rules, arrows_by_rules}
-use Rattle.lab_store_laws.specs.ByRules.{IsByRules}
-use Rattle.lab_store_laws.specs.Steps.{AppliesWhereKept}
+use Rattle.lab_store_tables.proofs.KeptByRules.{ids_by_order, keys_by_rules, arrows_by_rules}
+use Rattle.lab_store_tables.specs.ByRules.{IsByRules}
+use Rattle.lab_store_tables.specs.Steps.{AppliesWhereKept}
 use Rattle.lab_store_write.specs.Calls.{Steps, MadeFrom}
-use Rattle.lab_store_write_people.specs.Closings.{ClosesOf}
-use Rattle.lab_store_write_people.proofs.ClosedAlike.{closes_as_said}
+use Rattle.lab_store_write.specs.Closings.{ClosesOf}
+use Rattle.lab_store_write.proofs.ClosedAlike.{closes_as_said}
 
 pub rules_of : (db : Database) → IsTyped db → IsDatabase db → IsByRules (tables_in db.trees)
 rules_of db typed sound =

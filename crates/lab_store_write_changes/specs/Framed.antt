@@ -7,7 +7,7 @@ use Rattle.lab_records_kept.specs.declared.changes.Change.TheVariants.{Last, Str
 use Rattle.lab_records_kept.specs.declared.trails.TrailRow.{TrailRow as Told}
 use Rattle.lab_store_tables.specs.Rows.{Tables}
 use Rattle.lab_store_tables.specs.Changes.{InTurn}
-use Rattle.lab_store_laws.specs.Steps.{StepsBy}
+use Rattle.lab_store_tables.specs.Steps.{StepsBy}
 use Rattle.lab_store_write.specs.declared.named.Giver.{Giver}
 use Rattle.lab_store_write.specs.Calls.{MadeFrom}
 use Rattle.lab_store_write.specs.Givers.{Knows}

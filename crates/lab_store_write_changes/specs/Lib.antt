@@ -1,4 +1,11 @@
 pub mod Causes
+pub mod EntriesAdded
+pub mod FieldsShown
+pub mod FormsAdded
+pub mod FormsShown
 pub mod Framed
 pub mod NewbornRows
 pub mod Newborns
+pub mod RecordsAdded
+pub mod Texts
+pub mod VersionsShown

@@ -6,7 +6,7 @@ use Rattle.lab_store_tables.specs.Rows.{Tables, lab_id}
 use Rattle.lab_store_tables.specs.Held.{AreRising}
 use Rattle.lab_store_tables.specs.Changes.{IsFree, InTurn, AddsPerson, AddsTold}
 use Rattle.lab_store_tables.specs.Placing.{lab_row_of, put_lab}
-use Rattle.lab_store_laws.specs.ByRules.{IsByRules}
+use Rattle.lab_store_tables.specs.ByRules.{IsByRules}
 
 -- the laboratory's row, under this id
 pub record AddsLab (id : ℤ) (lab : Lab) (old new : Tables) : Type 0 where

@@ -7,18 +7,20 @@ ghost use Rattle.sqlite.specs.State.{HasCleanDisk};
 ghost use Rattle.lab_records_kept.specs.declared.changes.Change.TheVariants.{Last, Strays, SessionsClosed};
 ghost use Rattle.lab_store_tables.specs.Changes.{AppliesIn, InTurn};
 ghost use Rattle.lab_store_tables.specs.Held.{IsTyped};
-ghost use Rattle.lab_store_laws.specs.Steps.{AppliesWhereKept, StepsBy};
+ghost use Rattle.lab_store_tables.specs.Steps.{AppliesWhereKept, StepsBy};
 ghost use Rattle.lab_store_write.specs.Calls.{Stays, Steps, Writes, WritesUnless, FailsFor, MadeFrom};
 ghost use Rattle.lab_store_write.specs.Givers.{Knows};
 ghost use Rattle.lab_store_write_changes.specs.Causes.{IsTooMuch, OneIsTooMuch};
 ghost use Rattle.lab_store_write_changes.specs.Framed.{spares_last, keeps_giver, StepsKnowing, framed};
 
 use crate::framed::frame_of;
+use crate::{add_form, add_record, enter_row, open_version, sign_version};
 use lab_forms_texts::{Moment, PersonCode};
 use lab_records_kept::{Change, Closing, TrailRow};
-use lab_store_write::{Giver, RowId, Writable, add_told, giver_if_any, set_last, set_strays};
-use lab_store_write_people::{add_person, add_session, close_sessions, set_person, set_session};
-use lab_store_write_records::{add_form, add_record, enter_row, open_version, sign_version};
+use lab_store_write::{
+    Giver, RowId, Writable, add_person, add_session, add_told, close_sessions, giver_if_any,
+    set_last, set_person, set_session, set_strays,
+};
 use sqlite::Error;
 
 // Sets the last moment.

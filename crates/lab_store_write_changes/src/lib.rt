@@ -1,13 +1,30 @@
-//! What is written inside one transaction: the changes of a request, one after the other, and the
-//! rows of a laboratory that is founded (21 CFR 11.10(e); ISO/IEC 17025:2017, 7.11.3). This crate
-//! names no connection and no transaction: a crate above begins and commits the transaction.
+//! What is written inside one transaction: forms, records, versions, entries and signatures; the
+//! changes of a request, one after the other; and the rows of a laboratory that is founded (21 CFR
+//! 11.10(e) and 11.70; ISO/IEC 17025:2017, 7.5.2 and 7.11.3). This crate names no connection and no
+//! transaction: a crate above begins and commits the transaction.
 #![tactic(auto)]
 
 mod changes;
+mod entries;
+mod forms;
 mod framed;
+mod kinds;
+mod named;
+mod named_forms;
 mod newborns;
+mod places;
+mod reason_texts;
+mod records;
 mod rows;
+mod signatures;
+mod texts;
+mod versions;
 
 pub use changes::all_inside;
+pub use entries::enter_row;
+pub use forms::add_form;
 pub use newborns::{is_asked, laboratory};
+pub use records::add_record;
 pub use rows::add_rows;
+pub use signatures::sign_version;
+pub use versions::open_version;

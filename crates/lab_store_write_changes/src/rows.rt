@@ -13,8 +13,7 @@ use lab_people_access::Person;
 use lab_records_kept::{Lab, TrailRow};
 use lab_store_write::statements::run;
 use lab_store_write::values::{count_value, moment_value, text_value};
-use lab_store_write::{RowId, Writable, add_told};
-use lab_store_write_people::add_person;
+use lab_store_write::{RowId, Writable, add_person, add_told};
 use sqlite::Error;
 
 // Adds the laboratory's row, and returns its id.

@@ -1,8 +1,7 @@
 //! Calls without clauses, so that the proof of a test doesn't carry what a connection holds after
 //! each.
-use lab_move::{MoveFault, OldFile, Unwatched, migrate};
-use lab_move_files::{finish, make_tables};
-use lab_move_write::place_lab;
+use lab_move::{MoveEnd, MoveFault, Unwatched, migrate, open_old};
+use lab_move_write::{finish, make_tables, place_lab};
 use lab_records_keeper::{BadStore, KeeperFault};
 use lab_records_kept::Lab;
 use lab_store_files::{FileFault, open};
@@ -48,11 +47,15 @@ pub(crate) fn moved(
     conn: File,
     new: &mut File,
 ) -> Result<u64, MoveFault> {
-    let mut old = OldFile { conn };
+    let old = match open_old(conn) {
+        Ok(file) => file,
+        Err(unopened) => return Err(MoveFault::File(unopened.fault)),
+    };
     if !new.is_autocommit() {
         return Err(MoveFault::File(FileFault::Storage));
     }
-    migrate(rt.alloc(), &mut old, new, &mut Unwatched)
+    let MoveEnd { ending, left: _ } = migrate(rt.alloc(), old, new, &mut Unwatched);
+    ending
 }
 
 /// The text that a question shows.

@@ -1,4 +1,4 @@
-//! Tests of `lab_move_files`, `lab_move_write` and `lab_move` over databases in memory: they stand
+//! Tests of `lab_move_write`, `lab_move_write` and `lab_move` over databases in memory: they stand
 //! apart, so that the crates aren't proved once more with them.
 #![tactic(auto)]
 

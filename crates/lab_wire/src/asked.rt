@@ -6,8 +6,7 @@ ghost use Rattle.lab_wire.specs.Asked.{asked, RequestFaultFits};
 
 use crate::refusals::{RequestFault, RequestRefusal};
 use crate::{Asked, RouteFault, Routes, command_of};
-use lab_wire_heads::{RequestParts, request_parts};
-use lab_wire_received::Received;
+use lab_wire_heads::{Received, RequestParts, request_parts};
 use std::alloc::Global;
 
 // What bytes with these parts ask.

@@ -23,9 +23,10 @@ pub use lab_forms_texts::{Fault, LabCode, Moment, Name, OutOfMemory, RefusalKind
 pub use lab_records_machine::{Command, Founder, Founding, Instruction, Reply};
 pub use lab_records_rules::Refusal;
 pub use lab_seal_hashes::Token;
-pub use lab_wire_heads::{HeadFault, HeadRefusal, RequestParts, grammar_of_heads, request_parts};
+pub use lab_wire_heads::{
+    HeadFault, HeadRefusal, Received, RequestParts, grammar_of_heads, read_request, request_parts,
+};
 pub use lab_wire_members::{BodyFault, BodyRefusal};
-pub use lab_wire_received::{Received, read_request};
 pub use refusals::{RequestFault, RequestRefusal};
 pub use replies::{Answer, memory_reply, reply_bytes};
 pub use route_refusals::{Allowed, RouteFault, RouteRefusal};

@@ -1,12 +1,17 @@
 pub mod DateLemmas
 pub mod FrontLemmas
+pub mod GivenLemmas
 pub mod HeadLaws
 pub mod HeadLemmas
 pub mod KnownHeads
 pub mod KnownMessages
+pub mod KnownValues
 pub mod LineLemmas
 pub mod MessageLemmas
 pub mod PlaceLemmas
 pub mod ReadLemmas
+pub mod ReceptionLemmas
 pub mod RequestLaws
 pub mod RequestLemmas
+pub mod StageLemmas
+pub mod StopLemmas

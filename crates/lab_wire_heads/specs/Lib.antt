@@ -6,7 +6,10 @@ pub mod Heads
 pub mod Interims
 pub mod Lengths
 pub mod Messages
+pub mod Reading
+pub mod Receiving
 pub mod Receptions
 pub mod Refusals
 pub mod Requests
+pub mod Stages
 pub mod Tokens

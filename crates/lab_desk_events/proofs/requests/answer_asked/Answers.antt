@@ -9,7 +9,7 @@ use Rattle.lab_records_kept.specs.Limits.{IsWithin}
 use Rattle.lab_records_keeper.specs.Worlds.{Meaning, SameMeaning, Changes, Given, Lives}
 use Rattle.lab_records_laws.specs.Stepping.{WhereThere}
 use Rattle.lab_records_machine.specs.Machine.{step}
-use Rattle.lab_records_outcomes.specs.Deciding.{decided}
+use Rattle.lab_records_laws.specs.Deciding.{decided}
 use Rattle.lab_wire.specs.declared.replies.Answer.TheVariants.{Replied}
 use Rattle.lab_wire.specs.Replies.{reply_text}
 use Rattle.lab_desk_events.specs.Requests.{Steps}

@@ -1,4 +1,4 @@
-use Rattle.lab_move_files.proofs.Commits.{told_ok, told_err}
+use Rattle.lab_move_write.proofs.Commits.{told_ok, told_err}
 use Rattle.lab_move.proofs.OldVerdicts.{of_store_by}
 use Rattle.lab_move.proofs.filling.finish_with.Goals as goal
 

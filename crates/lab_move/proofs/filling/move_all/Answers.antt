@@ -1,10 +1,11 @@
-use Rattle.std.proofs.Common.{Err}
+use Rattle.std.proofs.Common.{inl, Err}
 use Rattle.sqlite.specs.Held.{state}
 use Rattle.lab_store_tables.specs.Ready.{tables_of}
 use Rattle.lab_move_tables.proofs.OldReaders.{by_schema, may_end}
 use Rattle.lab_move.proofs.OneLab.{errs_as}
 use Rattle.lab_move.proofs.AllLabs.{counted, finishes_all, all_later, fails_all}
 use Rattle.lab_move.proofs.CountedFiles.{counted_since, filling_of}
+use Rattle.lab_move.proofs.RefusedLabs.{stops_behind}
 use Rattle.lab_move.proofs.filling.move_all.Goals as goal
 
 pub returns-in-Ok-clause-reads : goal.returns-in-Ok-clause-reads
@@ -35,3 +36,11 @@ returns-in-Err-clause-fills g c = fails_all c.args.codes.now c.in-Err.fault c.in
 
 pub finish_compared-requires : goal.finish_compared-requires
 finish_compared-requires g c = record { at_rest = c.in-Ok.ensures.fills.at_rest }
+
+pub returns-in-Ok-clause-cause : goal.returns-in-Ok-clause-cause
+returns-in-Ok-clause-cause g c read begun clean =
+    stops_behind g.D.Readable.state g.T.Store c.args.older c.args.codes.now c.args.old.now c.move_each.new.old c.finish_compared.new.old c.args.new.now c.move_each.new.new c.finish_compared.new.new
+    c.in-Ok.ensures.reads c.in-Ok.ensures.fills c.finish_compared.ensures.reads.passes c.finish_compared.result
+
+pub returns-in-Err-clause-cause : goal.returns-in-Err-clause-cause
+returns-in-Err-clause-cause g c read begun clean told = inl (c.in-Err.ensures.cause read begun clean told)

@@ -1,9 +1,10 @@
-use Rattle.std.proofs.Common.{drop, length, ◌+◌, ◌<◌, subst, arith}
+use Rattle.std.proofs.Common.{drop, take, length, ◌+◌, ◌<◌, subst, arith}
 use Rattle.std.proofs.lemmas.List.{take_all}
 use Rattle.sqlite.specs.Held.{state}
 use Rattle.lab_move_tables.specs.Standing.{StandsBy}
 use Rattle.lab_move_read_people.proofs.KeptLoops.{then_fails}
 use Rattle.lab_move.proofs.EachLab.{HasMoved, none_moved, one_moved, next_fills, blamed_first, fills_fail, blames_on, split_at, grown, all_read, all_filled}
+use Rattle.lab_move.proofs.RefusedLabs.{ours_of, stops_at}
 use Rattle.lab_move.proofs.filling.move_each.Goals as goal
 
 pub loop-place-init : goal.loop-place-init
@@ -46,3 +47,13 @@ returns-clause-reads g c = all_read c.loop-place.invariant (take_all c.loop-plac
 
 pub returns-clause-fills : goal.returns-clause-fills
 returns-clause-fills g c = all_filled c.loop-place.invariant (take_all c.loop-place.place c.args.codes.now (omega (arith, c.loop-place-test.false)))
+
+pub returns-in_err-move_lab-clause-cause : goal.returns-in_err-move_lab-clause-cause
+returns-in_err-move_lab-clause-cause g c read begun clean =
+    let codes = c.args.codes.now in
+    let place = c.loop-place.place in
+    let within : place < length codes = omega (arith, c.loop-place-test.true) in
+    let code = c.index-codes-place.result in
+    stops_at g.D.Readable.state g.T.Store c.args.older codes c.args.old.now c.loop-place.old c.move_lab.new.old c.args.new.now c.loop-place.new c.move_lab.new.new (take place codes) (drop (place + 1) codes) code
+    (split_at codes place code code within c.index-codes-place.is) c.loop-place.invariant c.in_err-move_lab.field-0.0 (c.in_err-move_lab.ensures.cause read (ours_of c.loop-place.invariant begun) clean)
+    c.from_residual.result c.from_residual.ensures.1

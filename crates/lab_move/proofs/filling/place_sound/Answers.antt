@@ -1,8 +1,10 @@
 use Rattle.sqlite.specs.Held.{state}
-use Rattle.lab_move_files.proofs.Commits.{makes_weaker, nothing_made}
+use Rattle.lab_move_write.proofs.Commits.{makes_weaker, nothing_made}
 use Rattle.lab_move_write.specs.Carrying.{Carries}
 use Rattle.lab_move.specs.Moving.{IsSoundLab}
 use Rattle.lab_move.proofs.OneLab.{errs_as, on_ok_so}
+use Rattle.std.proofs.Common.{inl}
+use Rattle.lab_move.proofs.RefusedLabs.{unplaced_by}
 use Rattle.lab_move.proofs.filling.place_sound.Goals as goal
 
 pub returns-in-Ok-clause-placed : goal.returns-in-Ok-clause-placed
@@ -20,3 +22,9 @@ returns-in-Ok-clause-fault g c = errs_as c.place_tried.result (λ one none. absu
 
 pub returns-in-Err-clause-placed : goal.returns-in-Err-clause-placed
 returns-in-Err-clause-placed g c = nothing_made _ _ (state g.T.Store c.args.new.now) c.requires.at_rest
+
+pub returns-in-Ok-clause-cause : goal.returns-in-Ok-clause-cause
+returns-in-Ok-clause-cause g c ours clean = unplaced_by g.T.Store c.args.new.now c.place_tried.new.new c.place_tried.result c.args.lab.now (c.place_tried.ensures.cause ours clean)
+
+pub returns-in-Err-clause-cause : goal.returns-in-Err-clause-cause
+returns-in-Err-clause-cause g c ours clean told = inl (c.in-Err.ensures.within told)

@@ -2,6 +2,7 @@ use Rattle.std.proofs.Common.{◌≡◌, length}
 use Rattle.std.specs.Vec.Iter.{into_iter_items, into_iter_len}
 use Rattle.lab_store_read_people.specs.Heads.{person_by}
 use Rattle.lab_move_tables.specs.Standing.{StandsBySome}
+use Rattle.lab_move_read_people.specs.Readable.{HasAsker}
 use Rattle.lab_move_read_people.specs.Persons.{is_kept_head}
 use Rattle.lab_move_read_people.proofs.KeptLoops.{HasKept}
 use Rattle.lab_move_read_people.proofs.people.persons_whole.Given as goal
@@ -9,7 +10,7 @@ use Rattle.lab_move_read_people.proofs.people.persons_whole.Given as goal
 -- what was made so far, and what is to come, is all
 abbrev pub invariant-loop-head : goal.invariant-loop-head
 invariant-loop-head g l = record {
-  kept : HasKept StandsBySome (λ t. is_kept_head t l.fn.lab) person_by l.fn.heads.items l.made (into_iter_items l.head-iterator)
+  kept : HasKept StandsBySome HasAsker (λ t. is_kept_head t l.fn.lab) person_by l.fn.heads.items l.made (into_iter_items l.head-iterator)
       (g.D.Readable.state l.fn.conn) (g.D.Readable.state l.conn);
   counted : into_iter_len l.head-iterator ≡ length (into_iter_items l.head-iterator);
 }

@@ -2,13 +2,15 @@ use Rattle.std.proofs.Common.{w64, ◌∙◌}
 use Rattle.std.proofs.lemmas.Int.{to_z-of_z}
 use Rattle.lab_move_read_people.proofs.Found.{found_ends, rows_then}
 use Rattle.lab_move_read_people.proofs.PeopleFound.{trail_done, trail_fails}
+use Rattle.lab_move_read_people.proofs.ReadableRows.{all_doers}
 use Rattle.lab_move_read_people.proofs.trails.trail_at.Goals as goal
 
 pub returns-in_err-heads : goal.returns-in_err-heads
 returns-in_err-heads g c =
-    found_ends c.in_err-heads.field-0.0 (rw (to_z-of_z w64 c.args.lab c.ranges.lab) at c.in_err-heads.ensures) (λ t file fails. trail_fails t c.args.lab c.args.count fails) c.from_residual.result c.from_residual.ensures.1
+    found_ends c.in_err-heads.field-0.0 (rw (to_z-of_z w64 c.args.lab c.ranges.lab) at c.in_err-heads.ensures) (λ t file fails. trail_fails t c.args.lab c.args.count fails) c.from_residual.result c.from_residual.ensures.1 (λ t wanted. (wanted.taken, wanted.rows))
 
 pub returns : goal.returns
 returns g c =
     rows_then (rw (to_z-of_z w64 c.args.lab c.ranges.lab) at c.in_ok-heads.ensures) c.trail_whole.result (rw (to_z-of_z w64 c.args.lab c.ranges.lab) at c.trail_whole.ensures)
     (λ t file given. let it = trail_done t c.args.lab c.args.count c.in_ok-heads.heads.items given.0 given.1 in (it.0, λ made is. is ∙ it.1))
+    (λ t file wanted given. all_doers t (g.D.Readable.state c.args.conn.now).now c.args.lab c.in_ok-heads.heads.items given.1 wanted.doers)

@@ -10,7 +10,7 @@ pub loop-head-init : goal.loop-head-init
 loop-head-init g c =
     let all : into_iter_items c.into_iter-head-iterator.result ≡ c.args.heads.items = search rules in
     record {
-      kept = none_kept _ told_by c.args.heads.items _ _ (g.D.Readable.state c.args.conn.now) c.new-made.ensures all;
+      kept = none_kept _ _ told_by c.args.heads.items _ _ (g.D.Readable.state c.args.conn.now) c.new-made.ensures all;
       counted = search rules;
     }
 

@@ -1,11 +1,11 @@
 use Rattle.std.proofs.Common.{w64}
 use Rattle.std.proofs.lemmas.Int.{to_z-of_z}
 use Rattle.lab_move_tables.specs.declared.older.Older.TheVariants.{Two}
-use Rattle.lab_move_tables.proofs.OldReaders.{rows_read}
+use Rattle.lab_move_tables.proofs.Wheres.{rows_where}
 use Rattle.lab_move_tables.proofs.OldTexts.{session_means}
 use Rattle.lab_move_tables.proofs.people.session_rows.Goals as goal
 
 pub returns : goal.returns
 returns g c =
-    rows_read (session_means Two).read (rw (to_z-of_z w64 c.args.lab c.ranges.lab) at c.rows_by_one.ensures)
-    (λ t file rows. file.1.sessions c.args.lab rows.items)
+    rows_where (session_means Two).read (rw (to_z-of_z w64 c.args.lab c.ranges.lab) at c.rows_by_one.ensures)
+    (λ t file rows. file.1.sessions c.args.lab rows.items) (λ t is. is)

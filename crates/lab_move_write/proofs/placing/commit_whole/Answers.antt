@@ -4,8 +4,8 @@ use Rattle.sqlite.specs.Held.{state}
 use Rattle.lab_store_write.specs.Causes.{IsTooGreat}
 use Rattle.lab_store_write.specs.Transactions.{TransactionEndsForCause}
 use Rattle.lab_store_write.proofs.Transactions.{committed_so, given_up_so}
-use Rattle.lab_move_files.specs.Commits.{MakesAtOnce}
-use Rattle.lab_move_files.proofs.Commits.{ends_by}
+use Rattle.lab_move_write.specs.Commits.{MakesAtOnce}
+use Rattle.lab_move_write.proofs.Commits.{ends_by}
 use Rattle.lab_move_write.proofs.GivenUp.{PlacesIn}
 use Rattle.lab_move_write.proofs.placing.commit_whole.Goals as goal
 

@@ -2,8 +2,8 @@ use Rattle.std.proofs.Common.{Ok, sym, ◌∙◌}
 use Rattle.sqlite.specs.Held.{state}
 use Rattle.lab_store_tables.specs.Ready.{IsMadeBy}
 use Rattle.lab_store_write.proofs.Transactions.{isnt_memory, told_so}
-use Rattle.lab_move_files.proofs.Commits.{told_ok, told_err, makes_weaker}
-use Rattle.lab_move_laws.specs.Placings.{PlacesByRules}
+use Rattle.lab_move_write.proofs.Commits.{told_ok, told_err, makes_weaker}
+use Rattle.lab_move_write.specs.Placings.{PlacesByRules}
 use Rattle.lab_move_write.specs.Carrying.{Carries}
 use Rattle.lab_move_write.proofs.Carried.{carries}
 use Rattle.lab_move_write.proofs.placing.place_lab.Goals as goal

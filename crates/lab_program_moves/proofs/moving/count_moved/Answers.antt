@@ -7,11 +7,11 @@ use Rattle.lab_program_moves.proofs.moving.count_moved.Goals as goal
 pub returns : goal.returns
 returns g c = (
   record {
-    left = c.migrate-ending.new.old.conn;
+    left = c.migrate-ending.result.left;
     made = c.migrate-ending.new.new;
     moved = c.migrate-ending.ensures.moved c.requires.blank;
     ready = c.migrate-ending.ensures.ready c.requires.blank;
-    shown = λ clean. shown_where c.migrate-ending.result _
+    shown = λ clean. shown_where c.migrate-ending.result.ending _
         (leaves_shown g.H.Disk.Store g.met.H.Disk.Store.settled c.migrate-ending.new.new)
         (c.migrate-ending.ensures.ready c.requires.blank clean);
     refused = c.migrate-ending.ensures.refused;

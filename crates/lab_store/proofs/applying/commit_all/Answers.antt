@@ -2,7 +2,7 @@ use Rattle.std.proofs.Common.{◌≡◌, Ok, Err, Result, OnOk, rules, subst, sy
 use Rattle.sqlite.specs.Effect.{IsDatabase}
 use Rattle.sqlite.specs.Held.{state}
 use Rattle.lab_store_tables.specs.Changes.{InTurn}
-use Rattle.lab_store_laws.specs.Steps.{StepsBy}
+use Rattle.lab_store_tables.specs.Steps.{StepsBy}
 use Rattle.lab_store_write_changes.specs.Causes.{OneIsTooMuch}
 use Rattle.lab_store.specs.Causes.{TransactionHasItsCause}
 use Rattle.lab_store.specs.Commits.{EndsStep}

@@ -1,7 +1,7 @@
 use Rattle.std.proofs.Common.{◌<◌, length, subst, arith}
 use Rattle.sqlite.specs.State.{HasCleanDisk}
 use Rattle.lab_records_kept.specs.declared.changes.Change.{Change}
-use Rattle.lab_store_laws.specs.Steps.{AppliesWhereKept}
+use Rattle.lab_store_tables.specs.Steps.{AppliesWhereKept}
 use Rattle.lab_store_write.specs.Calls.{Steps, MadeFrom}
 use Rattle.lab_store_write.specs.Givers.{Knows}
 use Rattle.lab_store_write.proofs.Writers.{nothing_done, stays_then}

@@ -2,7 +2,7 @@
 -- there was no memory, leave the keeper alone.
 use Rattle.std.proofs.Common.{sym, subst, rules, ap, ◌∙◌, Ok, Err}
 use Rattle.std.specs.Prelude.{IfSome}
-use Rattle.lab_wire_received.specs.Receptions.{IsReception}
+use Rattle.lab_wire_heads.specs.Receiving.{IsReception}
 use Rattle.lab_wire.specs.Asked.{asked}
 use Rattle.lab_wire.specs.declared.refusals.RequestRefusal.TheVariants.{Head}
 use Rattle.lab_desk.specs.Serving.{Serves}

@@ -3,7 +3,7 @@ use Rattle.std.proofs.lemmas.Result.{err_from_is_err_and}
 use Rattle.sqlite.specs.Held.{state}
 use Rattle.lab_records_keeper.specs.Worlds.{Changes}
 use Rattle.lab_store_tables.specs.Ready.{IsReady, tables_of}
-use Rattle.lab_store_laws.specs.Steps.{AreMadeIfAny}
+use Rattle.lab_store_tables.specs.Steps.{AreMadeIfAny}
 use Rattle.lab_store_load.proofs.Counting.{counted_or_none, open_or_none}
 use Rattle.sqlite.specs.State.{HasCleanDisk, IsUnchanged}
 use Rattle.lab_store.specs.Commits.{EndsStep}

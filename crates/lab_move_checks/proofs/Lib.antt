@@ -1,5 +1,0 @@
-pub mod Decisions
-pub mod BoundDecided
-pub mod DualDecided
-pub mod WithinDecided
-pub mod KnownSoundness

@@ -1,5 +1,0 @@
-use Rattle.lab_move_files.proofs.MadeTables.{table_makes}
-use Rattle.lab_move_files.proofs.making.make_table.Goals as goal
-
-pub returns : goal.returns
-returns g c i d within is = table_makes c.args.text.now c.run.ensures.stays c.run.ensures.runs i d within is

@@ -1,4 +1,0 @@
-pub mod Causes
-pub mod Commits
-pub mod Tables
-pub mod Unfinished

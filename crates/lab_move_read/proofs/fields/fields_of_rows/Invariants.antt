@@ -1,0 +1,7 @@
+use Rattle.std.proofs.Common.{◌≡◌, map, take}
+use Rattle.lab_store_read_forms.specs.Shown.{field_read}
+use Rattle.lab_move_read.proofs.fields.fields_of_rows.Given as goal
+
+-- those of the rows so far
+abbrev pub invariant-loop-row : goal.invariant-loop-row
+invariant-loop-row l = l.made.items ≡ map field_read (take l.row-index l.rows)

@@ -1,0 +1,39 @@
+use Rattle.std.proofs.Common.{◌≡◌, ◌∷◌, length, sym, ap, ◌∙◌, arith, rules}
+use Rattle.std.specs.Vec.Iter.{into_iter_items}
+use Rattle.lab_store_read_forms.specs.Forms.{field_by}
+use Rattle.lab_move_read.specs.Forms.{is_kept_field_head}
+use Rattle.lab_store_read.proofs.Loops.{none_left}
+use Rattle.lab_move_read_people.proofs.KeptLoops.{none_kept, one_kept, one_ends, push_ends, all_kept}
+use Rattle.lab_move_read.proofs.fields.fields_whole.Goals as goal
+
+pub loop-head-init : goal.loop-head-init
+loop-head-init g c =
+    let all : into_iter_items c.into_iter-head-iterator.result ≡ c.args.heads.items = search rules in
+    record {
+      kept = none_kept _ is_kept_field_head field_by c.args.heads.items _ _ (g.D.Readable.state c.args.conn.now) c.new-made.ensures all;
+      counted = search rules;
+    }
+
+pub loop-head-preserved : goal.loop-head-preserved
+loop-head-preserved g c =
+    let steps : into_iter_items c.loop-head.head-iterator ≡ c.in-Some.head ∷ into_iter_items c.next.new.self = c.in-Some.ensures.steps.0 in
+    record {
+      kept = one_kept c.loop-head.invariant.kept steps c.in_ok-field.ensures c.in_ok-push.ensures.ok (λ t is. is);
+      counted =
+          let was = c.loop-head.invariant.counted in
+          let less = c.in-Some.ensures.steps.1 in
+          let short = ap length steps in
+          omega arith;
+    }
+
+pub returns-in_err-field : goal.returns-in_err-field
+returns-in_err-field g c =
+    one_ends c.loop-head.invariant.kept c.in-Some.ensures.steps.0 c.in_err-field.field-0.0 c.in_err-field.ensures
+    c.from_residual.result c.from_residual.ensures.1
+
+pub returns-in_err-push : goal.returns-in_err-push
+returns-in_err-push g c = push_ends c.loop-head.invariant.kept c.in_ok-field.ensures c.from_residual-in_err-push.result c.from_residual-in_err-push.ensures.1
+
+pub returns : goal.returns
+returns g c =
+    all_kept c.loop-head.invariant.kept (none_left _ (sym c.loop-head.invariant.counted ∙ c.in-None.ensures.steps.0)) (λ t is. is)

@@ -1,3 +1,0 @@
-pub mod SaidRows
-pub mod FormsFound
-pub mod RecordsFound

@@ -1,4 +1,0 @@
-pub mod ByRules
-pub mod Chain
-pub mod Founding
-pub mod Steps

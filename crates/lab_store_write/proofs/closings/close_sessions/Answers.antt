@@ -1,0 +1,14 @@
+use Rattle.lab_store_write.specs.Givers.{Knows}
+use Rattle.lab_store_write.proofs.Writers.{and_then, fails_so, then_fails}
+use Rattle.lab_store_write.proofs.ClosingLemmas.{closes_of}
+use Rattle.lab_store_write.proofs.closings.close_sessions.Goals as goal
+
+pub returns-in_err-person : goal.returns-in_err-person
+returns-in_err-person g c = fails_so c.in_err-person.ensures c.from_residual.result c.from_residual.ensures.1
+
+pub returns-in_err-close_meant : goal.returns-in_err-close_meant
+returns-in_err-close_meant g c = then_fails c.in_ok-person.ensures c.in_err-close_meant.ensures c.from_residual-in_err-close_meant.result c.from_residual-in_err-close_meant.ensures.1
+
+pub returns : goal.returns
+returns g c =
+    and_then c.in_ok-person.ensures c.in_ok-close_meant.ensures (closes_of c.args.lab.id (Knows c.args.lab.id c.args.giver) c.args.code.now c.args.closing c.in_ok-person.person.id _ _ _)

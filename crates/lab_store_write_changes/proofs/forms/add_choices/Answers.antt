@@ -1,0 +1,18 @@
+use Rattle.std.proofs.Common.{arith}
+use Rattle.lab_store_tables.specs.Changes.{AddsChoice}
+use Rattle.lab_store_write.proofs.Writers.{turns_begun, turns_on, turns_ended, then_fails}
+use Rattle.lab_store_write_changes.proofs.forms.add_choices.Goals as goal
+
+pub loop-one-init : goal.loop-one-init
+loop-one-init g c = turns_begun (AddsChoice c.args.field.id) c.args.tx.now tt
+
+pub loop-one-preserved : goal.loop-one-preserved
+loop-one-preserved g c =
+    turns_on (AddsChoice c.args.field.id) c.args.names.now c.loop-one.one-index c.loop-one.invariant c.one-item.result c.one-item.is (omega (arith, c.loop-one-test.true))
+    c.in_ok-add_choice.ensures
+
+pub returns-in_err-add_choice : goal.returns-in_err-add_choice
+returns-in_err-add_choice g c = then_fails c.loop-one.invariant c.in_err-add_choice.ensures c.from_residual.result c.from_residual.ensures.1
+
+pub returns : goal.returns
+returns g c = turns_ended (AddsChoice c.args.field.id) c.args.names.now c.loop-one.one-index c.loop-one.invariant (omega (arith, c.loop-one-test.false))
