@@ -1,5 +1,5 @@
 -- The new file finished after a look at both, and that each table then has as many rows as the old file's.
-use Rattle.std.proofs.Common.{◌≡◌, inl, inr, ℕ, List, [], ◌∷◌, Ok, Err, Result, OnOk, OnErr, IsTrue, sym, ap, subst, ◌∙◌}
+use Rattle.std.proofs.Common.{◌≡◌, inl, inr, ℕ, List, [], ◌∷◌, Ok, Err, Result, OnOk, OnErr, IsTrue, sym, ap, subst, ◌∙◌, arith}
 use Rattle.sqlite_value.specs.Order.{Row}
 use Rattle.sqlite.specs.Effect.{Database}
 use Rattle.sqlite.specs.State.{State, HasCleanDisk}
@@ -43,6 +43,8 @@ module _ {Stands : Database → Tables → Type 0} {A E : Type 0} {a : A} {old m
         let early = q.once.clean clean in
         on_ok r (λ it. (read.passes.live early it.0, it.1, subst (λ (db : Database). Finishes db new.now) (read.shows early) it.2)) (q.made clean);
     rows = λ clean opened. on_err r (λ same. same ∙ read.shows (q.once.clean clean)) (q.rows clean opened);
+    counts = omega (arith, read.passes.counts, q.counts);
+    limit = q.limit ∙ read.passes.limit;
   }
 
 -- one that read and gave no answer
@@ -53,6 +55,8 @@ fails_then rest read = record {
   live = read.passes.live;
   made = λ clean. tt;
   rows = read.passes.shows rest;
+  counts = read.passes.counts;
+  limit = read.passes.limit;
 }
 
 -- ---- the row that names the schema is none of those that are counted

@@ -1,5 +1,5 @@
 -- What the question for the numbers of rows means under today's schema, and what it shows.
-use Rattle.std.proofs.Common.{◌≡◌, ◌≤◌, ℕ, pos, negsuc, true, false, cond, List, [], ◌∷◌, ◌++◌, length, flat_map, codes, None, refl, subst, ap, suc, ◌∙◌, append_assoc, Equal, arith}
+use Rattle.std.proofs.Common.{◌≡◌, ◌≤◌, ℕ, pos, negsuc, true, false, cond, List, [], ◌∷◌, ◌++◌, length, flat_map, codes, None, refl, subst, ap, suc, ◌∙◌, append_assoc, Equal, arith, lit≤}
 use Rattle.std.specs.List.{list_all}
 use Rattle.std.proofs.lemmas.List.{length-map}
 use Rattle.sqlite_value.specs.declared.value.Value.TheVariants.{Int, Null}
@@ -23,6 +23,8 @@ use Rattle.lab_store_tables.specs.Schema.{lab_schema}
 use Rattle.lab_store_tables.specs.Family.{Labs, Persons, Sessions, Forms, Fields, Choices, Records, Versions, Entries, Signatures, Trail}
 use Rattle.lab_store_read.proofs.Queries.{IsRead}
 use Rattle.lab_store_read.proofs.Sorted.{only_answer}
+use Rattle.lab_move_tables.specs.Answering.{IsTaken}
+use Rattle.lab_move_tables.proofs.OldTaken.{taken_so}
 use Rattle.lab_move.specs.Counting.{AreAlike, AreCounts, counts_row, counts_text, shown_count}
 
 -- ---- the question
@@ -70,6 +72,10 @@ counts_unlisted = refl
 pub counts_plain : IsPlain (understood lab_schema counts_text)
 unfolding understood everything
 counts_plain = (refl, refl)
+
+pub counts_taken : (db : Database) → db.schema ≡ lab_schema → IsTaken db counts_text []
+unfolding understood everything
+counts_taken db has = taken_so db has (record { read = counts_read; command = counts_are; unlisted = counts_unlisted; plain = counts_plain }) [] (lit≤ tt, refl) refl refl refl
 
 -- ---- steps that count the rows of a table
 

@@ -5,13 +5,14 @@ use Rattle.std.specs.Prelude.{codes}
 use Rattle.std.proofs.lemmas.List.Elements.{All-nil}
 use Rattle.sqlite_trees.specs.declared.store.Store.{Ghosts}
 use Rattle.sqlite_schema.specs.declared.schema.Schema.{Schema}
+use Rattle.sqlite_value.specs.Order.{Row}
 use Rattle.sqlite.specs.Effect.{Database}
 use Rattle.sqlite.specs.Held.{Held, state}
 use Rattle.sqlite.specs.State.{State, HasCleanDisk}
 use Rattle.lab_store_tables.specs.Schema.{lab_schema}
 use Rattle.lab_store_tables.specs.Family.{Name, Desk, empty_tables, id_of, rows, tables_in}
 use Rattle.lab_store_tables.specs.Meaning.{meaning}
-use Rattle.lab_store_tables.specs.Ready.{IsKept}
+use Rattle.lab_store_tables.specs.Ready.{IsKept, tables_of}
 use Rattle.lab_store_tables.specs.Rows.{Tables}
 use Rattle.lab_store_tables.proofs.FamilyWords.{stored_row, tree_of, trees_of}
 use Rattle.lab_store_tables.proofs.KnownFile.{desk}
@@ -24,7 +25,8 @@ use Rattle.lab_move_tables.specs.declared.older.Older.TheVariants.{Two}
 use Rattle.lab_move_tables.proofs.KnownOldFile.{lifted}
 use Rattle.lab_move_read.specs.Laboratories.{codes_of}
 use Rattle.lab_move.specs.declared.faults.MoveFault.TheVariants.{File, NotSound}
-use Rattle.lab_move.specs.Causes.{IsMoveCaused, IsUnasked}
+use Rattle.lab_move.specs.Causes.{CountsDiffer, IsMoveCaused, IsMoveUnfinished, IsUnanswered}
+use Rattle.lab_move.specs.Counting.{cell, counts_row, counts_text}
 use Rattle.lab_move.specs.Moving.{AreCounted, IsFirstUnsound, IsSoundIn, Lasts}
 use Rattle.lab_move.specs.OldFiles.{StandsFor}
 use Rattle.lab_move.specs.Owed.{AnswersOldOwed, MovesAsOwed, StopsAt}
@@ -108,11 +110,19 @@ known_lost before after new it = it.stays
 
 module _ {S : Type 0} (g : Ghosts S) (held : Held S) (before : State) where
   -- a connection that was shut is told of, to the old file as it is opened, to the new one as it is filled
-  pub known_shut : before.is_open ≡ false → IsUnasked before before
-  known_shut shut = inl (inr (inl shut))
+  pub known_shut : (text : List ℕ) → before.is_open ≡ false → IsUnanswered text before before
+  known_shut text shut = inl (inr (inl shut))
 
   pub known_new_shut : (state g held).is_open ≡ false → IsMoveCaused (λ (_ : Unit {0}). before) g tt tt held held
   known_new_shut shut = inl (inl (inr (inl shut)))
+
+  -- nor is a move finished over one
+  pub known_end_shut : before.is_open ≡ false → IsMoveUnfinished g before before held held
+  known_end_shut shut = inl (inl (known_shut counts_text shut))
+
+  -- the counts of two files that show the same don't differ
+  pub known_alike : (it : CountsDiffer g before before held) → ¬ ◌≡◌ {A = List Row} it.rows (counts_row (tables_of (state g held)) ∷ [])
+  known_alike it same = it.differ (λ at within. ap (λ (rows : List Row). cell rows at) same)
 
   -- an empty new file that stays as it was isn't, where its connection is open and has no limit, its disk had no fault, and no transaction
   -- was undone

@@ -13,6 +13,7 @@ pub mod AllLabs
 pub mod CountedFiles
 pub mod Causes
 pub mod StoreCauses
+pub mod Matching
 pub mod MoveOwed
 pub mod KnownOwed
 pub mod KnownMoves

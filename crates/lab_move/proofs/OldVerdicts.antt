@@ -160,7 +160,7 @@ known_tables Two Signatures = (refl, refl)
 known_tables Two Trail = (refl, refl)
 
 -- each is found by its number
-older_found : (older : Older) → older_of (pos (number_of older)) ≡ Some older
+pub older_found : (older : Older) → older_of (pos (number_of older)) ≡ Some older
 older_found Two = refl
 
 -- ---- the verdict on a file of an older schema
@@ -198,7 +198,7 @@ pub not_failed : (older : Older) → ¬ FailedInStore {A = Older} (Ok older)
 not_failed older (inl e) = cc
 not_failed older (inr e) = cc
 
--- so the tables for which it stands are those of this schema
+-- the tables for which a file stands that names this schema are those of this schema
 pub stands_by : (older : Older) (db : Database) → Names older db → (t : Tables) → StandsFor db t → StandsBy older db t
 stands_by older db named t file = subst (λ it. StandsBy it db t) (sym (file.alone older named)) file.stands
 
@@ -206,20 +206,19 @@ stands_by older db named t file = subst (λ it. StandsBy it db t) (sym (file.alo
 alike : (one other : Older) → pos (number_of one) ≡ pos (number_of other) → one ≡ other
 alike one other same = let both : Some one ≡ Some other = sym (older_found one) ∙ ap older_of same ∙ older_found other in cc
 
--- a file that names this schema names no other
-pub named_stands : (older : Older) (db : Database) → IsNamedOldFile older db → (t : Tables) → StandsBy older db t → StandsFor db t
-named_stands older db file t stands = record {
+-- a file that shows this schema's number in every answer to the question stands for the tables for which
+-- it stands as one of this schema
+pub alone_stands : (older : Older) (db : Database) (t : Tables) → ((rows : List Row) → ShowsOf db number_query [] rows → number_shown rows ≡ Some (pos (number_of older)))
+    → StandsBy older db t → StandsFor db t
+alone_stands older db t shows stands = record {
   older = older;
-  alone = λ other named. alike other older (let both : Some (pos (number_of other)) ≡ Some (pos (number_of older)) = sym named.2 ∙ file.named named.0 named.1 in cc);
+  alone = λ other named. alike other older (let both : Some (pos (number_of other)) ≡ Some (pos (number_of older)) = sym named.2 ∙ shows named.0 named.1 in cc);
   stands = stands;
 }
 
--- while there is one older schema, no file names another
-pub known_alone : (db : Database) (t : Tables) → StandsBy Two db t → StandsFor db t
-known_alone db t stands = record { older = Two; alone = only; stands = stands }
-  where
-    only : (other : Older) → Names other db → other ≡ Two
-    only Two named = refl
+-- so does a file that names the schema
+pub named_stands : (older : Older) (db : Database) → IsNamedOldFile older db → (t : Tables) → StandsBy older db t → StandsFor db t
+named_stands older db file t stands = alone_stands older db t file.named stands
 
 -- ---- which faults there are
 

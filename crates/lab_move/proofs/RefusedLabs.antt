@@ -21,7 +21,7 @@ use Rattle.lab_move_tables.proofs.OldReaders.{may_and}
 use Rattle.lab_move_read.specs.Laboratories.{IsLabOf, codes_of}
 use Rattle.lab_move.specs.declared.faults.MoveFault.{MoveFault}
 use Rattle.lab_move.specs.declared.faults.MoveFault.TheVariants.{File}
-use Rattle.lab_move.specs.Causes.{IsFillingRefused, IsRefusedLab, IsUnplaced, IsUnplacedOf, IsUnwritten, StopsAtEnd, StopsAtLab}
+use Rattle.lab_move.specs.Causes.{IsFillingRefused, IsMoveUnfinished, IsRefusedLab, IsUnplaced, IsUnplacedOf, IsUnwritten, StopsAtEnd, StopsAtLab}
 use Rattle.lab_move.specs.Faults.{read_told}
 use Rattle.lab_move.specs.Moving.{Fills, HasThese, IsBegun, IsSoundIn}
 use Rattle.lab_move.proofs.EachLab.{HasMoved}
@@ -60,8 +60,12 @@ module _ {S A : Type 0} (g : Ghosts S) (old new : Held S) (r : Result A MoveFaul
 -- ---- laboratories, one after the other
 
 -- where a file is being filled, its tables are ours
+pub ours_filled : {Stands : Database → Tables → Type 0} {E : Type 0} (done : List (List ℕ)) {before after old mid : State} → Fills {A = Unit {0}} {E = E} (HasThese Stands before after done) (Ok tt) old mid
+    → IsBegun old.now → HasOurTables mid
+ours_filled done p begun = λ clean opened. ((p.made clean (p.live clean opened)).1 begun).file.typed
+
 pub ours_of : {Stands : Database → Tables → Type 0} {done : List (List ℕ)} {old now was is : State} → HasMoved Stands done old now was is → IsBegun was.now → HasOurTables is
-ours_of so begun = λ clean opened. ((so.fills.made clean (so.fills.live clean opened)).1 begun).file.typed
+ours_of {done = done} so begun = ours_filled done so.fills begun
 
 module _ {D S : Type 0} (seen : D → State) (g : Ghosts S) (older : Older) (codes : List (List ℕ)) (before now after : D) (fresh last new : Held S) where
   pub stops_at : {A : Type 0} (done rest : List (List ℕ)) (code : List ℕ) → codes ≡ done ++ code ∷ rest → HasMoved (StandsBy older) done (seen before) (seen now) (state g fresh) (state g last) → (fault : MoveFault)
@@ -81,13 +85,15 @@ module _ {D S : Type 0} (seen : D → State) (g : Ghosts S) (older : Older) (cod
 
   pub stops_behind : {A E : Type 0} → ReadsAs (StandsBy older) {T = Unit {0}} {E = E} (λ t _. All (IsSoundIn t) codes) (seen before) (seen now) (Ok tt)
       → Fills {A = Unit {0}} {E = E} (HasThese (StandsBy older) (seen before) (seen now) codes) (Ok tt) (state g fresh) (state g last) → PassesOver (seen now) (seen after) → (r : Result A MoveFault)
+      → IfErr r (λ e. e ≡ File Storage → IsMoveUnfinished g (seen now) (seen after) last new)
       → IfErr r (λ e. e ≡ File Storage → StopsAtLab seen g older codes before after fresh new ⊎ StopsAtEnd seen g older codes before after fresh new)
-  stops_behind reads fills passes (Ok a) = tt
-  stops_behind reads fills passes (Err e) = λ told. inr (record {
+  stops_behind reads fills passes (Ok a) h = tt
+  stops_behind reads fills passes (Err e) h = λ told. inr (record {
     now = now;
     last = last;
     placed = record { read = may_and reads (λ t file all. all); moved = steps_ok tt fills };
     passes = passes;
+    why = h told;
   })
 
   -- by the codes that were read

@@ -1,5 +1,5 @@
 -- Calls that commit one after the other, by the states between.
-use Rattle.std.proofs.Common.{inl, inr, Ok, Err, Result, OnOk, OnErr, refl, sym, subst}
+use Rattle.std.proofs.Common.{inl, inr, Ok, Err, Result, OnOk, OnErr, refl, sym, subst, ◌∙◌, arith}
 use Rattle.sqlite.specs.Effect.{Database}
 use Rattle.sqlite.specs.State.{State}
 use Rattle.lab_store_tables.specs.Ready.{IsAtRest}
@@ -24,6 +24,8 @@ no_step a s rest made = record {
   crash = λ clean opened trees left. inl left;
   made = λ clean opened. (opened, made);
   rows = λ clean opened. tt;
+  counts = omega arith;
+  limit = refl;
 }
 
 -- one commit more
@@ -44,6 +46,8 @@ step_more {A} {B} {E} {F} {Left} {Filled} {Mid} {Made} {Next} {a} {r} {old} {mid
       let early = q.once.clean clean in
       let here = p.made early (p.live early (q.live clean opened)) in
       on_err r (λ same. inr (subst Filled (sym same) (stays here.1))) (q.rows clean opened);
+  counts = omega (arith, p.counts, q.counts);
+  limit = q.limit ∙ p.limit;
 }
 
 -- one that failed
@@ -57,6 +61,8 @@ steps_fail f p weaker = record {
   crash = λ clean opened trees found. elim (p.crash clean opened trees found) [ inl before ↦ inl before | inr it ↦ inr (it.0, weaker it.0 it.1, it.2) ];
   made = λ clean opened. tt;
   rows = p.rows;
+  counts = p.counts;
+  limit = p.limit;
 }
 
 -- in other words
@@ -69,6 +75,8 @@ steps_as r {old} {new} p weaker other = record {
   crash = λ clean opened trees found. elim (p.crash clean opened trees found) [ inl before ↦ inl before | inr it ↦ inr (it.0, weaker it.0 it.1, it.2) ];
   made = λ clean opened. on_ok r (λ it. (it.0, other new.now it.1)) (p.made clean opened);
   rows = p.rows;
+  counts = p.counts;
+  limit = p.limit;
 }
 
 -- a call that didn't come to it
@@ -81,10 +89,12 @@ nothing_by_steps e s rest = record {
   crash = λ clean opened trees left. inl left;
   made = λ clean opened. tt;
   rows = λ clean opened. inl refl;
+  counts = omega arith;
+  limit = refl;
 }
 
 -- an answer in other words
 pub steps_ok : {A B E F : Type 0} {Left Filled Made : Database → Type 0} {a : A} (b : B) {old new : State}
     → MakesBySteps Left Filled Made {E = E} (Ok a) old new
     → MakesBySteps Left Filled Made {E = F} (Ok b) old new
-steps_ok b p = record { at_rest = p.at_rest; clean = p.clean; live = p.live; crash = p.crash; made = p.made; rows = p.rows }
+steps_ok b p = record { at_rest = p.at_rest; clean = p.clean; live = p.live; crash = p.crash; made = p.made; rows = p.rows; counts = p.counts; limit = p.limit }

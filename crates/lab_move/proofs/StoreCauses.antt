@@ -16,20 +16,19 @@ use Rattle.lab_store_read.specs.Reads.{FailsToAsk}
 use Rattle.lab_store_files.specs.declared.faults.FileFault.{FileFault}
 use Rattle.lab_store_files.specs.declared.faults.FileFault.TheVariants.{Storage, Memory}
 use Rattle.lab_store_files.specs.Schemas.{is_taken}
-use Rattle.lab_store_files.specs.Verdicts.{number_query}
 use Rattle.lab_move_tables.specs.declared.older.Older.{Older}
 use Rattle.lab_move_write.specs.Causes.{AreUnmade}
 use Rattle.lab_move_write.specs.Commits.{MakesAtOnce}
 use Rattle.lab_move_write.specs.Unfinished.{Begins, IsBeingFilled}
 use Rattle.lab_move.specs.declared.faults.MoveFault.{MoveFault}
 use Rattle.lab_move.specs.declared.faults.MoveFault.TheVariants.{File}
-use Rattle.lab_move.specs.Causes.{IsFillingRefused, IsMoveCaused, IsUnasked, StopsAtEnd, StopsAtLab}
+use Rattle.lab_move.specs.Causes.{IsFillingRefused, IsMoveCaused, IsUnanswered, StopsAtEnd, StopsAtLab}
 use Rattle.lab_move.specs.Faults.{read_told}
 use Rattle.lab_move.specs.Moving.{FillsAll, IsBegun}
 use Rattle.lab_move.specs.OldFiles.{Names}
 use Rattle.lab_move.proofs.CountedFiles.{begun_open}
 
--- ---- the question for the number
+-- ---- a question
 
 -- it isn't told as the store's for want of memory
 isnt_memory : (e : Error) (fault : Fault BadStore) → fault ≡ store_fault e → read_told fault ≡ Storage → IsFalse (is_out_of_memory e)
@@ -46,14 +45,14 @@ failed_so old new e told Full is fault = inl fault
 failed_so old new e told Broken is shut = inr (inl shut)
 failed_so old new e told Unstorable is big = absurd big
 
-unasked_by : (old new : State) (e : Error) → IsFalse (is_out_of_memory e) → FailsToQuery number_query [] old new e → IsUnasked old new
+unanswered_by : (text : List ℕ) (old new : State) (e : Error) → IsFalse (is_out_of_memory e) → FailsToQuery text [] old new e → IsUnanswered text old new
 unfolding FailsToQuery IsNotRun
-unasked_by old new e told (inl (inl it)) = inr (record { error = e; told = told; refused = inl it.0 })
-unasked_by old new e told (inl (inr it)) = inl (failed_so old new e told it.0 it.1 it.2)
-unasked_by old new e told (inr it) = inr (record { error = e; told = told; refused = inr it })
+unanswered_by text old new e told (inl (inl it)) = inr (record { error = e; told = told; refused = inl it.0 })
+unanswered_by text old new e told (inl (inr it)) = inl (failed_so old new e told it.0 it.1 it.2)
+unanswered_by text old new e told (inr it) = inr (record { error = e; told = told; refused = inr it })
 
-pub unasked_so : (old new : State) (fault : Fault BadStore) (answer : FileFault) → answer ≡ read_told fault → FailsToAsk number_query [] old new fault → answer ≡ Storage → IsUnasked old new
-unasked_so old new fault answer is fails told = unasked_by old new fails.0 (isnt_memory fails.0 fault fails.2 (sym is ∙ told)) fails.1
+pub unanswered_so : (text : List ℕ) (old new : State) (fault : Fault BadStore) (answer : FileFault) → answer ≡ read_told fault → FailsToAsk text [] old new fault → answer ≡ Storage → IsUnanswered text old new
+unanswered_so text old new fault answer is fails told = unanswered_by text old new fails.0 (isnt_memory fails.0 fault fails.2 (sym is ∙ told)) fails.1
 
 -- ---- a move
 
@@ -71,7 +70,7 @@ module _ {C D S : Type 0} (of : C → D) (seen : D → State) (g : Ghosts S) (ol
 
   end_of : (codes : List (List ℕ)) (before after : C) (fresh new : Held S) → StopsAtEnd (λ (file : C). seen (of file)) g older codes before after fresh new
       → StopsAtEnd seen g older codes (of before) (of after) fresh new
-  end_of codes before after fresh new it = record { now = of it.now; last = it.last; placed = it.placed; passes = it.passes }
+  end_of codes before after fresh new it = record { now = of it.now; last = it.last; placed = it.placed; passes = it.passes; why = it.why }
 
   filling_of : (before after : C) (fresh new : Held S) → IsFillingRefused (λ (file : C). seen (of file)) g older before after fresh new
       → IsFillingRefused seen g older (of before) (of after) fresh new

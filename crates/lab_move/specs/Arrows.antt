@@ -1,4 +1,4 @@
--- The references of a table of schema 2, each of which leads from one column to the ids of a table
+-- The references of a table of an older schema, each of which leads from one column to the ids of a table
 -- (ISO/IEC 9075-2, referential constraints). The file itself sees to it that such a column holds
 -- NULL or the id of a row that is there.
 use Rattle.std.specs.Prelude.{ℕ, ◌-◌, Bool, true, false, ◌==◌, ◌&&◌, codes, List, [], ◌∷◌, slice_get, slice_index_or}

@@ -1,54 +1,57 @@
--- Why a call tells of the store, 63, where a file of an older schema is opened or moved. The old file
--- wasn't asked for the number of its schema, or the tables of the new one weren't made: for a fault of
--- the disk in the call, a connection that was shut before it, a limit of steps, or a statement that was
--- refused. Else the move was under way: the new file is being filled, and is left so; what was read of
--- the old one, and what was placed in the new one, up to the call that was refused, is named.
+-- Why a call returns the fault of the store, 63, where a file of an older schema is opened or moved. The
+-- old file wasn't asked for the number of its schema, or the tables of the new one weren't made: for a
+-- fault of the disk in the call, a connection that was shut before it, a limit of steps, or a statement
+-- that was refused. Else the move was under way: the new file is being filled, and is left so; what was
+-- read of the old one, and what was placed in the new one, up to the call that was refused, is named.
+-- Where all laboratories were placed, the cause is named for which the move wasn't finished: a call was
+-- refused, or the two files differ in a number of rows.
 use Rattle.std.specs.Prelude.{◌≡◌, ◌⊎◌, ℕ, List, [], ◌∷◌, ◌++◌, All, Option, Some, None, Ok, false, IsFalse}
 use Rattle.sqlite_trees.specs.declared.store.Store.{Ghosts}
+use Rattle.sqlite_value.specs.Order.{Row}
 use Rattle.sqlite_resolve.specs.declared.compiled.Compiled.{Compiled}
 use Rattle.sqlite.specs.declared.error.Error.{Error}
 use Rattle.sqlite.specs.Clock.{timed}
 use Rattle.sqlite.specs.Held.{Held, state}
-use Rattle.sqlite.specs.State.{State, FailsToShow, IsNoStatement, IsStatement}
+use Rattle.sqlite.specs.State.{State, FailsToShow, IsNoStatement, IsStatement, Shown}
 use Rattle.lab_forms_texts.specs.declared.refusals.Fault.{Fault}
 use Rattle.lab_records_keeper.specs.declared.faults.BadStore.{BadStore}
 use Rattle.lab_records_kept.specs.declared.labs.Lab.{Lab}
 use Rattle.lab_records_kept.specs.Limits.{IsWithin}
-use Rattle.lab_store_tables.specs.Ready.{WhereShown}
+use Rattle.lab_store_tables.specs.Ready.{WhereShown, tables_of}
 use Rattle.lab_store_tables.specs.Rows.{Tables}
 use Rattle.lab_store_read.specs.Causes.{IsCaused}
 use Rattle.lab_store_read.specs.Faults.{is_out_of_memory}
 use Rattle.lab_store_files.specs.declared.faults.FileFault.{FileFault}
 use Rattle.lab_store_files.specs.NewFiles.{IsBlank}
 use Rattle.lab_store_files.specs.Schemas.{is_taken}
-use Rattle.lab_store_files.specs.Verdicts.{number_query}
 use Rattle.lab_store_write.specs.Causes.{IsTooGreat}
 use Rattle.lab_store_write.specs.Transactions.{FailsInside}
-use Rattle.lab_move_tables.specs.Reading.{PassesOver, ReadsAs}
+use Rattle.lab_move_tables.specs.Reading.{PassesOver, ReadsAs, ReadsOld}
 use Rattle.lab_move_tables.specs.Standing.{StandsBy}
 use Rattle.lab_move_tables.specs.declared.older.Older.{Older}
-use Rattle.lab_move_write.specs.Causes.{AreUnmade}
+use Rattle.lab_move_write.specs.Causes.{AreUnmade, IsNamingRefused}
 use Rattle.lab_move_write.specs.Commits.{MakesAtOnce}
 use Rattle.lab_move_write.specs.Unfinished.{Begins, IsBeingFilled}
 use Rattle.lab_move_read.specs.Laboratories.{IsLabOf, codes_of}
 use Rattle.lab_move_read.specs.Readable.{HasCodes, HasWhole}
+use Rattle.lab_move.specs.Counting.{AreCounts, counts_text}
 use Rattle.lab_move.specs.Moving.{Fills, HasThese, IsSoundIn}
 use Rattle.lab_move.specs.OldFiles.{Names}
 
--- ---- the old file
+-- ---- a question
 
--- it refused the question for its number, and not for want of memory: its schema doesn't understand
--- the question, or the query failed by what the file is
-pub record RefusesNumber (old new : State) : Type 0 where
+-- a file refused a question, and not for want of memory: its schema doesn't understand the question, or
+-- the query failed on what the file holds, or reached the limit of steps
+pub record RefusesQuestion (text : List ℕ) (old new : State) : Type 0 where
   pub error : Error
   pub told : IsFalse (is_out_of_memory error)
-  pub refused : IsNoStatement old number_query [] error
-      ⊎ ((read : Compiled) × (it : IsStatement old number_query [] read)
-      × FailsToShow old new number_query read (timed [] read.formats it.now) error read.returning)
+  pub refused : IsNoStatement old text [] error
+      ⊎ ((read : Compiled) × (it : IsStatement old text [] read)
+      × FailsToShow old new text read (timed [] read.formats it.now) error read.returning)
 
--- it wasn't asked
-abbrev pub IsUnasked : State → State → Type 0
-IsUnasked old new = IsCaused old new ⊎ RefusesNumber old new
+-- the question got no answer
+abbrev pub IsUnanswered : List ℕ → State → State → Type 0
+IsUnanswered text old new = IsCaused old new ⊎ RefusesQuestion text old new
 
 -- ---- a laboratory
 
@@ -101,13 +104,39 @@ pub record StopsAtLab {D S : Type 0} (seen : D → State) (g : Ghosts S) (older 
   pub placed : ArePlaced g older done (seen before) (seen now) fresh last
   pub why : IsRefusedLab g older code (seen now) (seen after) last new
 
--- all of them are placed: it wasn't found that each table has as many rows, or the schema wasn't named
+-- ---- the end, by the old file before and after it, and the new one before and after it
+
+-- the old file answered, and its answer isn't how many rows the tables of the new one have
+pub record CountsDiffer {S : Type 0} (g : Ghosts S) (before after : State) (last : Held S)
+    : Type 0 where
+  pub rows : List Row
+  pub shown : Shown counts_text [] before after rows
+  pub differ : ¬ AreCounts rows (tables_of (state g last))
+
+-- the numbers of rows weren't found equal: one of the two files gave no answer, or they differ
+abbrev pub FailsToMatch : {S : Type 0} → Ghosts S → State → State → Held S → Held S → Type 0
+FailsToMatch g before after last new =
+    IsUnanswered counts_text before after
+    ⊎ (IsCaused (state g last) (state g new) ⊎ CountsDiffer g before after last)
+
+-- the new file was read, and then its schema wasn't named
+pub record IsSchemaUnnamed {S : Type 0} (g : Ghosts S) (last new : Held S) : Type 0 where
+  pub asked : Held S
+  pub reads : ReadsOld {T = Unit {0}} {E = ⊥} (λ t _. Unit {0}) (state g last) (state g asked) (Ok tt)
+  pub why : IsCaused (state g asked) (state g new) ⊎ IsNamingRefused g asked new
+
+abbrev pub IsMoveUnfinished : {S : Type 0} → Ghosts S → State → State → Held S → Held S → Type 0
+IsMoveUnfinished g before after last new =
+    FailsToMatch g before after last new ⊎ IsSchemaUnnamed g last new
+
+-- all laboratories were placed, and then the move wasn't finished
 pub record StopsAtEnd {D S : Type 0} (seen : D → State) (g : Ghosts S) (older : Older)
     (codes : List (List ℕ)) (before after : D) (fresh new : Held S) : Type 0 where
   pub now : D
   pub last : Held S
   pub placed : ArePlaced g older codes (seen before) (seen now) fresh last
   pub passes : PassesOver (seen now) (seen after)
+  pub why : IsMoveUnfinished g (seen now) (seen after) last new
 
 -- ---- all that is filled in, by the old file before and after it, and the new one before and after it
 

@@ -3,7 +3,7 @@
 -- each version keeps its text, its digest and its signatures (21 CFR 11.10(c) and 11.70; ISO/IEC
 -- 17025:2017, 7.5.2, "both the original and amended data and files shall be retained"); and a new
 -- file that isn't whole is none in which laboratories are kept.
-use Rattle.std.specs.Prelude.{◌≡◌, ◌⊎◌, ℕ, if◌then◌else◌, IsTrue, List, ◌∷◌, ◌++◌, length, All, Some, None, Result, Err, OnOk, OnErr, bytes_eq}
+use Rattle.std.specs.Prelude.{◌≡◌, ◌⊎◌, ◌≤◌, ℕ, if◌then◌else◌, IsTrue, List, ◌∷◌, ◌++◌, length, All, Some, None, Result, Err, OnOk, OnErr, bytes_eq}
 use Rattle.std.specs.List.{list_any}
 use Rattle.sqlite_trees.specs.Tree.{Trees}
 use Rattle.sqlite_trees.specs.declared.store.Store.{Ghosts}
@@ -124,6 +124,9 @@ pub record MakesBySteps (Left Filled Made : Database → Type 0) {A E : Type 0} 
       → OnOk result (IsTrue new.is_open × Made new.now)
   -- where it failed, the rows are as before, or some of it is made
   pub rows : WhereShown new (OnErr result ((new.now ≡ old.now) ⊎ Filled new.now))
+  -- no fault is forgotten, and the steps have the limit that they had
+  pub counts : old.faults ≤ new.faults
+  pub limit : new.step_limit ≡ old.step_limit
 
 -- what is said of a file that was without a laboratory before
 abbrev pub OnceBegun : Database → (Database → Type 0) → Database → Type 0

@@ -1,14 +1,19 @@
 //! Whether an old file has as many rows in each table as the new one: if it has more, something was left behind.
 
-ghost use Rattle.std.specs.Prelude.{◌≡◌, [], Some, IfOk, IfErr, OnOk, IsTrue};
+ghost use Rattle.std.specs.Prelude.{◌≡◌, ◌⊎◌, [], Some, IfOk, IfErr, OnOk, OnErr, IsFalse, IsTrue};
 ghost use Rattle.sqlite_value.specs.declared.value.Value.TheVariants.{Int};
 ghost use Rattle.sqlite.specs.Held.{state};
 ghost use Rattle.sqlite.specs.State.{HasCleanDisk};
 ghost use Rattle.lab_store_tables.specs.Held.{IsTyped};
 ghost use Rattle.lab_store_tables.specs.Ready.{tables_of};
 ghost use Rattle.lab_store_read.specs.Reads.{AsksQuery};
+ghost use Rattle.lab_store_read.specs.Cells.{storage};
+ghost use Rattle.lab_store_files.specs.declared.faults.FileFault.TheVariants.{Storage};
+ghost use Rattle.lab_store_write.specs.Transactions.{HasOurTables};
 ghost use Rattle.lab_move_tables.specs.Reading.{ReadsOld};
-ghost use Rattle.lab_move.specs.Counting.{AreAlike, AreCounts, HasAsMany, cell, counts_text};
+ghost use Rattle.lab_store_read.specs.Causes.{IsCaused};
+ghost use Rattle.lab_move.specs.Causes.{CountsDiffer, FailsToMatch};
+ghost use Rattle.lab_move.specs.Counting.{AreAlike, AreCounts, HasAsMany, ShowsNumber, LacksNumber, cell, counts_text};
 ghost use Rattle.lab_move.specs.Faults.{IsOfStore};
 
 use crate::faults::store_fault;
@@ -43,7 +48,8 @@ fn new_rows<T: Alter>(new: &mut Connection<T>) -> Result<Vec<Row>, ReadFault>
 
 // The number at a place of the first row.
 fn number_at(rows: &[Row], at: usize) -> Result<i64, ReadFault>
-    ensures { IfOk result (λ many. cell rows.now at ≡ Some (Int many)) }
+    ensures number { IfOk result (λ many. cell rows.now at ≡ Some (Int many)) }
+    ensures fault { IfErr result (λ _. ¬ ShowsNumber rows.now at) }
 {
     match rows.first() {
         Some(row) => id_of(row, at),
@@ -53,7 +59,9 @@ fn number_at(rows: &[Row], at: usize) -> Result<i64, ReadFault>
 
 // Whether both show the same number for each table.
 fn are_alike(rows: &[Row], others: &[Row]) -> Result<bool, ReadFault>
-    ensures { IfOk result (λ yes. IsTrue yes → AreAlike rows.now others.now) }
+    ensures alike { IfOk result (λ yes. IsTrue yes → AreAlike rows.now others.now) }
+    ensures unlike { IfOk result (λ yes. IsFalse yes → ¬ AreAlike rows.now others.now) }
+    ensures fault { IfErr result (λ _. LacksNumber rows.now ⊎ LacksNumber others.now) }
 {
     for at in 0..TABLES {
         let there = number_at(rows, at)?;
@@ -71,6 +79,12 @@ fn has_so_many<T: Alter>(new: &mut Connection<T>, rows: &[Row]) -> Result<bool, 
         (state T.Store new.old) (state T.Store new.new) result }
     ensures counted { HasCleanDisk (state T.Store new.new) → IsTyped (state T.Store new.old).now →
         IfOk result (λ yes. IsTrue yes → AreCounts rows.now (tables_of (state T.Store new.old))) }
+    ensures unlike { HasCleanDisk (state T.Store new.new) → HasOurTables (state T.Store new.old) →
+        IfOk result (λ yes. IsFalse yes → ¬ AreCounts rows.now (tables_of (state T.Store new.old))) }
+    ensures cause { HasCleanDisk (state T.Store new.new) → HasOurTables (state T.Store new.old) →
+        IfErr result (λ fault. fault ≡ storage →
+        IsCaused (state T.Store new.old) (state T.Store new.new)
+        ⊎ (¬ AreCounts rows.now (tables_of (state T.Store new.old)))) }
 {
     match new_rows(new) {
         Ok(others) => are_alike(rows, &others),
@@ -78,7 +92,7 @@ fn has_so_many<T: Alter>(new: &mut Connection<T>, rows: &[Row]) -> Result<bool, 
     }
 }
 
-// Whether they have as many as those of the old file.
+// Whether each table has as many rows in both files.
 fn has_as_many<D: Readable, T: Alter>(
     old: &mut D,
     new: &mut Connection<T>,
@@ -89,6 +103,12 @@ fn has_as_many<D: Readable, T: Alter>(
     ensures counted { HasCleanDisk (D.state old.new) → HasCleanDisk (state T.Store new.new) →
         IsTyped (state T.Store new.old).now → IfOk result (λ yes. IsTrue yes →
         HasAsMany (D.state old.old).now (tables_of (state T.Store new.old))) }
+    ensures unlike { HasCleanDisk (D.state old.new) → HasCleanDisk (state T.Store new.new) →
+        HasOurTables (state T.Store new.old) → IfOk result (λ yes. IsFalse yes →
+        CountsDiffer T.Store (D.state old.old) (D.state old.new) new.old) }
+    ensures cause { HasCleanDisk (D.state old.new) → HasCleanDisk (state T.Store new.new) →
+        HasOurTables (state T.Store new.old) → IfErr result (λ fault. fault ≡ storage →
+        FailsToMatch T.Store (D.state old.old) (D.state old.new) new.old new.new) }
 {
     match old_rows(old) {
         Ok(rows) => has_so_many(new, &rows),
@@ -96,18 +116,19 @@ fn has_as_many<D: Readable, T: Alter>(
     }
 }
 
-// What is told where they have fewer: no laboratory can be named.
+// What is answered where the numbers differ: no laboratory can be named.
 fn all_or_storage(all: bool) -> Result<(), FileFault>
     ensures all { OnOk result (IsTrue all) }
+    ensures unlike { OnErr result (IsFalse all) }
     ensures fault { IfErr result IsOfStore }
 {
     if all { Ok(()) } else { Err(FileFault::Storage) }
 }
 
-/// Compares how many rows each table of the old file has, and of the new one. Nothing is written.
+/// Compares how many rows each table has in the old file and in the new one. Nothing is written.
 ///
 /// # Errors
-/// They aren't as many, the store of either refused, or memory ran out.
+/// The numbers differ, the store of either file refused, or memory ran out.
 pub(crate) fn compare_counts<D: Readable, T: Alter>(
     old: &mut D,
     new: &mut Connection<T>,
@@ -119,6 +140,9 @@ pub(crate) fn compare_counts<D: Readable, T: Alter>(
         IsTyped (state T.Store new.old).now → OnOk result
         (HasAsMany (D.state old.old).now (tables_of (state T.Store new.old))) }
     ensures fault { IfErr result IsOfStore }
+    ensures cause { HasCleanDisk (D.state old.new) → HasCleanDisk (state T.Store new.new) →
+        HasOurTables (state T.Store new.old) → IfErr result (λ fault. fault ≡ Storage →
+        FailsToMatch T.Store (D.state old.old) (D.state old.new) new.old new.new) }
 {
     match has_as_many(old, new) {
         Ok(all) => all_or_storage(all),

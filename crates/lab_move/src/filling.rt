@@ -11,6 +11,7 @@ ghost use Rattle.lab_store_tables.specs.Ready.{IsAtRest, IsMadeBy, tables_of};
 ghost use Rattle.lab_store_tables.specs.Rows.{Tables};
 ghost use Rattle.lab_move_tables.specs.Reading.{ReadsBy, ReadsOld};
 ghost use Rattle.lab_move_tables.specs.Standing.{StandsBy};
+ghost use Rattle.lab_move_write.specs.Causes.{NamingEndsForCause};
 ghost use Rattle.lab_move_write.specs.Commits.{MakesAtOnce};
 ghost use Rattle.lab_move_write.specs.Unfinished.{Finishes, IsBeingFilled};
 ghost use Rattle.lab_move_write.specs.Namings.{NamesSchema};
@@ -19,7 +20,7 @@ ghost use Rattle.lab_move_read_people.specs.declared.faults.KeptFault.TheVariant
 ghost use Rattle.lab_move_read.specs.Laboratories.{codes_of};
 ghost use Rattle.lab_store_files.specs.declared.faults.FileFault.TheVariants.{Storage};
 ghost use Rattle.lab_store_write.specs.Transactions.{HasOurTables};
-ghost use Rattle.lab_move.specs.Causes.{IsFillingRefused, IsRefusedLab, IsUnplaced, IsUnplacedOf, IsUnwritten, StopsAtEnd, StopsAtLab};
+ghost use Rattle.lab_move.specs.Causes.{IsFillingRefused, IsMoveUnfinished, IsRefusedLab, IsUnplaced, IsUnplacedOf, IsUnwritten, StopsAtEnd, StopsAtLab};
 ghost use Rattle.lab_move.specs.declared.faults.MoveFault.TheVariants.{File};
 ghost use Rattle.lab_move.specs.Counting.{HasAsMany};
 ghost use Rattle.lab_move.specs.Moving.{Blames, BlamesFirst, BlamesFirstOfAll, CarriesFrom, Fills, FillsAll, HasThese, AreCounted, IsBegun, ReadsOldAs, IsSoundIn, IsSoundLab, IsUnsoundIn, IsWhole, IsWholeOf};
@@ -184,6 +185,7 @@ fn finish_with<T: Alter>(new: &mut Connection<T>, codes: &[LabCode]) -> Result<u
         (state T.Store new.old) (state T.Store new.new) }
     ensures count { IfOk result (λ count. count ≡ length codes.now) }
     ensures fault { IfErr result (Blames (λ _. ⊥)) }
+    ensures cause { NamingEndsForCause T.Store (λ fault. fault ≡ File Storage) new.old new.new result }
 {
     match finish(new) {
         Ok(()) => Ok(codes.len() as u64),
@@ -206,6 +208,9 @@ fn finish_compared<D: Readable, T: Alter>(
         IsBeingFilled (state T.Store new.old).now →
         OnOk result (HasAsMany (D.state old.old).now (tables_of (state T.Store new.new))) }
     ensures fault { IfErr result (Blames (λ _. ⊥)) }
+    ensures cause { HasCleanDisk (D.state old.new) → HasOurTables (state T.Store new.old) →
+        HasCleanDisk (state T.Store new.new) → IfErr result (λ fault. fault ≡ File Storage →
+        IsMoveUnfinished T.Store (D.state old.old) (D.state old.new) new.old new.new) }
 {
     match compare_counts(old, new) {
         Ok(()) => finish_with(new, codes),

@@ -10,7 +10,7 @@ ghost use Rattle.lab_store_files.specs.Faults.{FailedInStore};
 ghost use Rattle.lab_store_files.specs.Verdicts.{integer_in, number_query, number_shown};
 ghost use Rattle.lab_move_tables.specs.Reading.{ReadsOld};
 ghost use Rattle.lab_move_tables.specs.declared.older.Older.{Older as AnyOlder};
-ghost use Rattle.lab_move.specs.Causes.{IsUnasked};
+ghost use Rattle.lab_move.specs.Causes.{IsUnanswered};
 ghost use Rattle.lab_move.specs.Faults.{IsOfStore};
 ghost use Rattle.lab_move.specs.Openings.{ending_of, left_by};
 ghost use Rattle.lab_move.specs.OldFiles.{older_of, whole_verdict, other_verdict, named_verdict, old_verdict, OldAnswers, IsNamedOldFile};
@@ -191,7 +191,7 @@ fn number_rows<D: Readable>(tables: &mut D) -> Result<Vec<Row>, FileFault>
         Shown number_query [] (D.state tables.old) (D.state tables.new) rows.items) }
     ensures fault { IfErr result IsOfStore }
     ensures cause { HasCleanDisk (D.state tables.new) → IfErr result (λ fault. fault ≡ Storage →
-        IsUnasked (D.state tables.old) (D.state tables.new)) }
+        IsUnanswered number_query (D.state tables.old) (D.state tables.new)) }
 {
     match tables.query_all("SELECT schema FROM desk", &[]) {
         Ok(rows) => Ok(rows),
@@ -213,7 +213,7 @@ fn older_in<S: Alter>(file: &mut Asked<S>) -> Result<Older, FileFault>
     ensures fault { result ≢ Err NotEmpty }
     ensures cause { HasCleanDisk (state S.Store file.new.conn) →
         IfErr result (λ fault. fault ≡ Storage →
-        IsUnasked (state S.Store file.old.conn) (state S.Store file.new.conn)) }
+        IsUnanswered number_query (state S.Store file.old.conn) (state S.Store file.new.conn)) }
 {
     if !has_number(file.conn.schema()) {
         return Err(FileFault::NotADeskFile);
@@ -249,7 +249,7 @@ pub fn open_old<S: Alter>(conn: Connection<S>) -> Result<OldFile<S>, Unopened<S>
     // The store's refusal has its cause:
     ensures cause { HasCleanDisk (state S.Store (left_by result)) →
         IfErr (ending_of result) (λ fault. fault ≡ Storage →
-        IsUnasked (state S.Store conn) (state S.Store (left_by result))) }
+        IsUnanswered number_query (state S.Store conn) (state S.Store (left_by result))) }
 {
     let mut file = Asked { conn };
     match older_in(&mut file) {

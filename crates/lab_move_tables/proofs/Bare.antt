@@ -108,6 +108,8 @@ passes sql read params old new before r alone ok err survives = record {
   live = λ clean opened. kept_open old new opened (ended clean);
   shows = λ rest clean opened. kept_rows old new before rest clean opened (ended clean);
   crash = λ clean opened trees left. elim (survives.crash clean trees left) [ inl was ↦ was | inr commits ↦ absurd (never_commits sql read params old trees commits) ];
+  counts = survives.counts;
+  limit = survives.limit;
 }
   where
     ended : HasCleanDisk new → IsUnchanged old new ⊎ IsRolledBack old new

@@ -58,6 +58,8 @@ passes_none s = record {
   live = λ clean opened. opened;
   shows = λ rest clean opened. refl;
   crash = λ clean opened trees left. left;
+  counts = omega arith;
+  limit = refl;
 }
 
 pub none_read : {Stands : Database → Tables → Type 0} {A E : Type 0} {Answer : Tables → A → Type 0} {s : State} {a : A} → ((t : Tables) → Answer t a) → ReadsAs Stands {E = E} Answer s s (Ok a)
@@ -75,6 +77,8 @@ passes_on a b c p q same = record {
   crash = λ clean opened trees left.
       let mid = q.clean clean in
       p.crash mid opened trees (q.crash clean (same mid opened).0.is_open trees left);
+  counts = omega (arith, p.counts, q.counts);
+  limit = q.limit ∙ p.limit;
 }
 
 -- a call that gave no answer

@@ -24,7 +24,7 @@ use Rattle.lab_move_tables.specs.declared.older.Older.TheVariants.{Two}
 use Rattle.lab_move_tables.proofs.OldTexts.{MeansIn, codes_means, lab_means, person_means, owner_means, session_means, form_means, field_means, choice_means, filed_means, version_means, entry_means, entry_place_means, signature_means, signature_place_means, told_means}
 
 -- one statement, of so many parameters
-abbrev IsOne : List ℕ → ℕ → Checked Compiled → Type 0
+abbrev pub IsOne : List ℕ → ℕ → Checked Compiled → Type 0
 IsOne sql count (Ok c) = (length sql ≤ c.tail) × (count ≡ length c.names)
 IsOne sql count (Err e) = ⊥
 
@@ -35,7 +35,7 @@ module _ {schema : Schema} {sql : List ℕ} {query : Query} {names : List (List 
   refused source e has (inr (inl over)) = elim over.1 [ inl group ↦ absurd (rw alone at group) | inr fold ↦ no_fold_overflows (overlay source.trees []) query.from (params ∷ []) unfolded fold ]
   refused source e has (inr (inr limit)) = absurd (let wrong = limit.1 in cc)
 
-  taken_so : IsTaken db sql params
+  pub taken_so : IsTaken db sql params
   taken_so = go (understood schema sql) refl one means.command means.plain
     where
       go : (r : Checked Compiled) → understood schema sql ≡ r → IsOne sql (length params) r → command_of r ≡ Select (record { lets = []; body = query }) names → IsPlain r → IsTaken db sql params

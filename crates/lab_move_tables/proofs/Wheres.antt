@@ -71,7 +71,7 @@ module _ {sql : List ℕ} {params : Row} (old new : State) (taken : IsTaken old.
         | inr other ↦ elim other [ inl over ↦ absurd (taken.accepted none.0 none.1 e (inr (inl over))) | inr limit ↦ inr (inr limit.1) ]
       ]
 
-  query_so : IsRead (first sql) → FailsToQuery sql params old new e → IsCaused old new
+  pub query_so : IsRead (first sql) → FailsToQuery sql params old new e → IsCaused old new
   unfolding FailsToQuery IsNotRun
   query_so read (inl (inl it)) = absurd (is_statement it.0)
   query_so read (inl (inr it)) = fails_so it
@@ -83,8 +83,6 @@ pub rows_where : {Stands Readable : Database → Tables → Type 0} {old new : S
     → ((t : Tables) → Readable old.now t → IsTaken old.now sql params) → ReadsWhere Stands Readable (λ fault. fault ≡ storage) Answer old new r
 rows_where {old = old} {new = new} {sql = sql} {params = params} {r = r} read it exact taken = record {
   reads = rows_read read it exact;
-  limit = it.survives.limit;
-  counts = it.survives.counts;
   cause = λ t file readable clean. by r (taken t readable) (it.err clean);
 }
   where
@@ -94,12 +92,9 @@ rows_where {old = old} {new = new} {sql = sql} {params = params} {r = r} read it
 
 -- ---- no call
 
-same_count : (n : ℕ) → n ≤ n
-same_count n = omega arith
-
 pub none_where : {Stands Readable : Database → Tables → Type 0} {A E : Type 0} {IsTold : E → Type 0} {Answer : Tables → A → Type 0} {s : State} {a : A} → ((t : Tables) → Answer t a)
     → ReadsWhere Stands Readable IsTold Answer s s (Ok a)
-none_where {s = s} it = record { reads = none_read it; limit = refl; counts = same_count s.faults; cause = λ _ _ _ _. tt }
+none_where it = record { reads = none_read it; cause = λ _ _ _ _. tt }
 
 -- ---- a call that gave no answer, which another passes on
 
@@ -109,15 +104,13 @@ pub where_end : {Stands Readable Wanted : Database → Tables → Type 0} {A C E
 where_end it (Ok c) Q failed told f = absurd failed
 where_end it (Err g) Q failed told f = record {
   reads = may_end it.reads (Err g) Q failed;
-  limit = it.limit;
-  counts = it.counts;
   cause = λ t file wanted clean is. it.cause t file (f t wanted) clean (told g failed is);
 }
 
 -- the answer in other words
 pub where_as : {Stands Readable Wanted : Database → Tables → Type 0} {A E : Type 0} {IsTold : E → Type 0} {Was Then : Tables → A → Type 0} {old new : State} {r : Result A E} → ReadsWhere Stands Readable IsTold Was old new r
     → ((t : Tables) (a : A) → Was t a → Then t a) → ((t : Tables) → Wanted old.now t → Readable old.now t) → ReadsWhere Stands Wanted IsTold Then old new r
-where_as it f g = record { reads = reads_as it.reads f; limit = it.limit; counts = it.counts; cause = λ t file wanted clean. it.cause t file (g t wanted) clean }
+where_as it f g = record { reads = reads_as it.reads f; cause = λ t file wanted clean. it.cause t file (g t wanted) clean }
 
 -- ---- one call and then another
 
@@ -134,17 +127,12 @@ caused_since old mid new counts limit still (inr (inl shut)) = opened old.is_ope
     opened true was = absurd (let is = still was in cc)
 caused_since old mid new counts limit still (inr (inr few)) = inr (inr (subst IsSome limit few))
 
-upward : (first mid last : ℕ) → first ≤ mid → mid ≤ last → first ≤ last
-upward first mid last one other = omega (arith, one, other)
-
 module _ {Stands Readable : Database → Tables → Type 0} {A E : Type 0} {IsTold : E → Type 0} {Was : Tables → A → Type 0} {old mid : State} {a : A} (it : ReadsWhere Stands Readable IsTold Was old mid (Ok a)) where
   -- what is made of an answer, which tells of the store for nothing that is readable
   pub where_and : {Wanted : Database → Tables → Type 0} {B F : Type 0} {IsTold2 : F → Type 0} {Then : Tables → B → Type 0} {r : Result B F} → ((t : Tables) → Stands old.now t → Was t a → IfOk r (Then t))
       → ((t : Tables) → Stands old.now t → Wanted old.now t → Was t a → IfErr r (λ fault. ¬ IsTold2 fault)) → ReadsWhere Stands Wanted IsTold2 Then old mid r
   where_and {IsTold2 = IsTold2} {r = r} f u = record {
     reads = may_and it.reads f;
-    limit = it.limit;
-    counts = it.counts;
     cause = λ t file wanted clean.
         IfErr-weaker r (λ fault. ¬ IsTold2 fault) (λ fault. IsTold2 fault → IsCaused old mid) (λ fault none told. absurd (none told)) (u t file wanted (it.reads.answer t file clean));
   }
@@ -157,7 +145,7 @@ module _ {Stands Readable : Database → Tables → Type 0} {A E : Type 0} {IsTo
         let early = next.reads.passes.clean clean in
         let same = it.reads.shows early in
         IfErr-weaker r (λ fault. IsTold2 fault → IsCaused mid new) (λ fault. IsTold2 fault → IsCaused old new)
-        (λ fault why told. caused_since old mid new it.counts it.limit (λ opened. (it.reads.same early opened).0.is_open) (why told))
+        (λ fault why told. caused_since old mid new it.reads.passes.counts it.reads.passes.limit (λ opened. (it.reads.same early opened).0.is_open) (why told))
         (next.cause t (stands_since Stands same t file) (subst (λ (db : Database). Needed db t) (sym same) (g t file wanted (it.reads.answer t file early))) clean)
 
     -- another call after it
@@ -166,8 +154,6 @@ module _ {Stands Readable : Database → Tables → Type 0} {A E : Type 0} {IsTo
         → ((t : Tables) → Stands old.now t → Wanted old.now t → Was t a → Needed old.now t) → ReadsWhere Stands Wanted IsTold2 Then old new r
     where_then {Wanted} next f g = record {
       reads = may_then it.reads next.reads f;
-      limit = next.limit ∙ it.limit;
-      counts = upward old.faults mid.faults new.faults it.counts next.counts;
       cause = next_so Wanted next g;
     }
 
@@ -177,8 +163,6 @@ module _ {Stands Readable : Database → Tables → Type 0} {A E : Type 0} {IsTo
         → ((t : Tables) → Stands old.now t → Wanted old.now t → Was t a → Is t b → IfErr r (λ fault. ¬ IsTold3 fault)) → ReadsWhere Stands Wanted IsTold3 Then old new r
     where_both {IsTold3 = IsTold3} {b = b} {r = r} next f u = record {
       reads = may_both it.reads next.reads f;
-      limit = next.limit ∙ it.limit;
-      counts = upward old.faults mid.faults new.faults it.counts next.counts;
       cause = λ t file wanted clean.
           let early = next.reads.passes.clean clean in
           let same = it.reads.shows early in
@@ -191,8 +175,6 @@ module _ {Stands Readable : Database → Tables → Type 0} {A E : Type 0} {IsTo
         → ((t : Tables) → Stands old.now t → Wanted old.now t → Was t a → Needed old.now t) → ReadsWhere Stands Wanted {T = C} IsTold3 Then old new (Err e)
     where_fail {Wanted} next told g = record {
       reads = may_fail it.reads next.reads;
-      limit = next.limit ∙ it.limit;
-      counts = upward old.faults mid.faults new.faults it.counts next.counts;
       cause = λ t file wanted clean is. next_so Wanted next g t file wanted clean (told is);
     }
 
@@ -201,4 +183,4 @@ module _ {Stands Readable : Database → Tables → Type 0} {A E : Type 0} {IsTo
 -- what is read of a file of any schema is read of one of this
 pub where_by_schema : {older : Older} {Readable : Database → Tables → Type 0} {A E : Type 0} {IsTold : E → Type 0} {Answer : Tables → A → Type 0} {old new : State} {r : Result A E}
     → ReadsWhere StandsBySome Readable IsTold Answer old new r → ReadsWhere (StandsBy older) Readable IsTold Answer old new r
-where_by_schema {older} it = record { reads = by_schema it.reads; limit = it.limit; counts = it.counts; cause = λ t file readable clean. it.cause t (older, file) readable clean }
+where_by_schema {older} it = record { reads = by_schema it.reads; cause = λ t file readable clean. it.cause t (older, file) readable clean }

@@ -21,6 +21,9 @@ pub record PassesOver (old new : State) : Type 0 where
   pub live : HasCleanDisk new → IsTrue new.is_open → IsTrue old.is_open
   pub shows : IsAtRest old → WhereShown new (new.now ≡ old.now)
   pub crash : LeavesNoMore old new
+  -- no fault is forgotten, and the steps have the limit that they had
+  pub counts : old.faults ≤ new.faults
+  pub limit : new.step_limit ≡ old.step_limit
 
 -- where it gives an answer, nothing changed, and the answer is the one of the tables for which the
 -- file stands in this way
@@ -49,8 +52,6 @@ pub record ReadsWhere (Stands Readable : Database → Tables → Type 0) {T E : 
     (IsTold : E → Type 0) (Answer : Tables → T → Type 0) (old new : State)
     (result : Result T E) : Type 0 where
   pub reads : ReadsAs Stands Answer old new result
-  pub limit : new.step_limit ≡ old.step_limit
-  pub counts : old.faults ≤ new.faults
   pub cause : (t : Tables) → Stands old.now t → Readable old.now t → HasCleanDisk new
       → IfErr result (λ fault. IsTold fault → IsCaused old new)
 

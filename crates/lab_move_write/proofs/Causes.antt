@@ -1,5 +1,5 @@
 -- Why the tables of a new file weren't made: for a statement that makes them, or for a cause of its connection.
-use Rattle.std.proofs.Common.{◌≡◌, ◌⊎◌, inl, inr, true, Ok, Err, Result, IfErr, IsTrue, IsFalse, refl, sym, subst, ◌∙◌}
+use Rattle.std.proofs.Common.{◌≡◌, ◌⊎◌, inl, inr, true, Ok, Err, Result, IfErr, IsTrue, IsFalse, refl, sym, subst, ◌∙◌, [], arith}
 use Rattle.std.specs.Prelude.{IsErrAnd}
 use Rattle.std.proofs.lemmas.Bool.{cases_Bool}
 use Rattle.sqlite_trees.specs.declared.store.Store.{Ghosts}
@@ -9,7 +9,7 @@ use Rattle.sqlite.specs.declared.error.Error.TheVariants.{SqliteFailure, SqlInpu
 use Rattle.sqlite.specs.declared.error.ErrorCode.TheVariants as code
 use Rattle.sqlite_resolve.specs.declared.error.CompileError.TheVariants as compile
 use Rattle.sqlite.specs.Held.{Held, state}
-use Rattle.sqlite.specs.State.{State, HasCleanDisk, IsRolledBack, Survives}
+use Rattle.sqlite.specs.State.{State, ExecutesInside, HasCleanDisk, IsRolledBack, Survives}
 use Rattle.sqlite.specs.Steps.{FailsToCommit}
 use Rattle.lab_store_read.specs.Causes.{IsCaused}
 use Rattle.lab_store_read.specs.Faults.{is_out_of_memory}
@@ -18,7 +18,8 @@ use Rattle.lab_store_write.proofs.Transactions.{commit_fails, committed_so, give
 use Rattle.lab_store_files.specs.declared.faults.FileFault.{FileFault}
 use Rattle.lab_store_files.specs.declared.faults.FileFault.TheVariants.{Storage}
 use Rattle.lab_store_files.specs.Faults as files
-use Rattle.lab_move_write.specs.Causes.{EndsMaking, FailsMaking, MakingEndsForCause}
+use Rattle.lab_move_write.specs.Causes.{EndsMaking, FailsMaking, MakingEndsForCause, NamingEndsForCause}
+use Rattle.lab_move_write.specs.Namings.{naming_text}
 
 -- ---- what is told of an error
 
@@ -67,6 +68,25 @@ module _ {S : Type 0} (g : Ghosts S) (old begun last end : Held S) (is : begun �
       limit = (committed_so g old begun last end is one inside three {B = B} ⊥ (Err e) err).limit;
       cause = λ clean told. inl (commit_fails g old begun last end is one inside three e clean told (err clean));
     }
+
+  -- the statement that names the schema was refused
+  module _ {e : Error} (ran : HasCleanDisk (state g last) → ExecutesInside 0 naming_text [] (state g begun) (state g last) (Err e))
+      (three : Survives (state g last) (state g end) (λ _. ⊥)) (undone : HasCleanDisk (state g end) → IsRolledBack (state g last) (state g end)) where
+    pub naming_given_up : {B : Type 0} (r : Result B Error) → IsErrAnd r (λ d. d ≡ e) → NamingEndsForCause g (λ e. IsFalse (is_out_of_memory e)) old end r
+    naming_given_up (Ok x) failed = absurd failed
+    naming_given_up (Err d) failed = λ clean told. inr (record {
+      last = last;
+      error = e;
+      told = subst (λ (d : Error). IsFalse (is_out_of_memory d)) failed told;
+      refused = subst (λ (h : Held S). ExecutesInside 0 naming_text [] (state g h) (state g last) (Err e)) is (ran (omega (arith, three.clean, clean)));
+      undone = undone clean;
+    })
+
+  module _ (inside : HasCleanDisk (state g last) → IsTrue (state g last).in_transaction) {Commits : Trees → Type 0} (three : Survives (state g last) (state g end) Commits) where
+    pub naming_committed : {B : Type 0} (r : Result B Error) → (HasCleanDisk (state g end) → IfErr r (FailsToCommit (state g last) (state g end)))
+        → NamingEndsForCause g (λ e. IsFalse (is_out_of_memory e)) old end r
+    naming_committed (Ok x) err = λ clean. tt
+    naming_committed (Err e) err = λ clean told. inl (commit_fails g old begun last end is one inside three e clean told (err clean))
 
 -- ---- what is told of a call, where that is told of another
 

@@ -51,6 +51,8 @@ module _ {S : Type 0} (g : Ghosts S) (old begun last : Held S) (end : State) (Ma
       live = λ clean opened. (undone_rows (late clean) (undone clean) opened).2;
       made = λ clean. tt;
       rows = λ clean opened. (undone_rows (late clean) (undone clean) opened).0;
+      counts = omega (arith, three.counts, so_far.counts);
+      limit = three.limit ∙ so_far.limit;
     }
 
   module _ (inside : HasCleanDisk (state g last) → IsTrue (state g last).in_transaction) (did : HasCleanDisk (state g last) → IsTrue (state g old).is_open → Made (state g begun).now (state g last).now)
@@ -84,6 +86,8 @@ module _ {S : Type 0} (g : Ghosts S) (old begun last : Held S) (end : State) (Ma
         live = λ clean opened. open_old clean;
         made = λ clean. (open_old clean, (ok clean).is_open, subst (Made (state g old).now) (sym (ok clean).now_is) (made_last (late_clean clean) (open_old clean)));
         rows = λ clean opened. tt;
+        counts = omega (arith, three.counts, so_far.counts);
+        limit = three.limit ∙ so_far.limit;
       }
 
     -- one whose commit failed
@@ -102,6 +106,8 @@ module _ {S : Type 0} (g : Ghosts S) (old begun last : Held S) (end : State) (Ma
         live = λ clean opened. (undone_rows (late_clean clean) (back clean (err clean)) opened).2;
         made = λ clean. tt;
         rows = λ clean opened. (undone_rows (late_clean clean) (back clean (err clean)) opened).0;
+        counts = omega (arith, three.counts, so_far.counts);
+        limit = three.limit ∙ so_far.limit;
       }
 
     -- whichever of the two
@@ -117,6 +123,8 @@ nothing_made Made fault s rest = record {
   live = λ clean opened. opened;
   made = λ clean. tt;
   rows = λ clean opened. refl;
+  counts = omega arith;
+  limit = refl;
 }
 
 -- what was made in other words
@@ -131,13 +139,15 @@ makes_weaker Made As r {old} {new} f it = record {
   live = it.live;
   made = λ clean. on_ok_weaker r (λ made. (made.0, made.1, f new.now made.2)) (it.made clean);
   rows = it.rows;
+  counts = it.counts;
+  limit = it.limit;
 }
 
 -- an answer in other words
 pub told_ok : {A B E F : Type 0} {Made : Database → Type 0} {old new : State} (value : A) (other : B) → MakesAtOnce Made {A = A} {E = E} (Ok value) old new
     → MakesAtOnce Made {A = B} {E = F} (Ok other) old new
-told_ok value other it = record { once = it.once; live = it.live; made = it.made; rows = it.rows }
+told_ok value other it = record { once = it.once; live = it.live; made = it.made; rows = it.rows; counts = it.counts; limit = it.limit }
 
 pub told_err : {A B E F : Type 0} {Made : Database → Type 0} {old new : State} (fault : E) (other : F) → MakesAtOnce Made {A = A} {E = E} (Err fault) old new
     → MakesAtOnce Made {A = B} {E = F} (Err other) old new
-told_err fault other it = record { once = it.once; live = it.live; made = it.made; rows = it.rows }
+told_err fault other it = record { once = it.once; live = it.live; made = it.made; rows = it.rows; counts = it.counts; limit = it.limit }

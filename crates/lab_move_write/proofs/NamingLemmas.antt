@@ -28,12 +28,9 @@ use Rattle.lab_store_write.proofs.Writes.{cast_int, cast_null, add_next}
 use Rattle.lab_store_write.proofs.Inside.{Wrote}
 use Rattle.lab_store_write.proofs.Ours.{ours}
 use Rattle.lab_move_write.specs.Unfinished.{Finishes}
-use Rattle.lab_move_write.specs.Namings.{naming_row, put_naming, NamesSchema}
+use Rattle.lab_move_write.specs.Namings.{naming_row, put_naming, NamesSchema, naming_text}
 
 -- ---- the statement
-
-abbrev pub naming_text : List ℕ
-naming_text = codes "INSERT INTO desk (schema) VALUES (3)"
 
 abbrev naming_terms : List Term
 naming_terms = lit Null ∷ lit Null ∷ lit (Int (pos 3)) ∷ []

@@ -1,16 +1,17 @@
--- Why a call that makes the tables of a new file tells of the store: in its transaction one of the
--- statements that make them was refused. Else the disk had a fault in the call, the connection was
--- shut before it, or its steps have a limit.
-use Rattle.std.specs.Prelude.{◌≡◌, ◌⊎◌, ◌++◌, ℕ, List, [], ◌∷◌, map, codes, Err, Result, IfErr, IsTrue}
+-- Why a call that makes the tables of a new file, or names its schema, returns the fault of the store:
+-- in its transaction one of the statements that make them, or the one that names it, was refused. Else
+-- the disk had a fault in the call, the connection was shut before it, or its steps have a limit.
+use Rattle.std.specs.Prelude.{◌≡◌, ◌⊎◌, ◌++◌, ℕ, true, List, [], ◌∷◌, map, codes, Err, Result, IfErr, IsFalse, IsTrue}
 use Rattle.std.specs.List.{Contains}
 use Rattle.sqlite_trees.specs.declared.store.Store.{Ghosts}
 use Rattle.sqlite_schema.specs.declared.schema.Table.{Table}
 use Rattle.sqlite.specs.declared.error.Error.{Error}
 use Rattle.sqlite.specs.Held.{Held, state}
-use Rattle.sqlite.specs.State.{State, ExecutesInside, HasCleanDisk, Survives}
+use Rattle.sqlite.specs.State.{State, ExecutesInside, HasCleanDisk, IsRolledBack, Survives}
 use Rattle.lab_store_read.specs.Causes.{IsCaused}
 use Rattle.lab_store_read.specs.Faults.{is_out_of_memory}
 use Rattle.lab_store_write.specs.Transactions.{FailsWithin}
+use Rattle.lab_move_write.specs.Namings.{naming_text}
 use Rattle.lab_move_write.specs.Tables.{own_tables}
 
 -- the statements that make the file: one for each table, and then its index
@@ -41,3 +42,21 @@ pub record MakingEndsForCause {S T E : Type 0} (g : Ghosts S) (IsTold : E → Ty
   pub limit : (state g new).step_limit ≡ (state g old).step_limit
   pub cause : HasCleanDisk (state g new)
       → IfErr result (λ fault. IsTold fault → AreUnmade g old new)
+
+-- the one statement that names the schema was refused, in a transaction over the file as it was; it
+-- was then undone
+pub record IsNamingRefused {S : Type 0} (g : Ghosts S) (old new : Held S) : Type 0 where
+  -- as the statement left the file
+  pub last : Held S
+  pub error : Error
+  pub told : IsFalse (is_out_of_memory error)
+  pub refused : ExecutesInside 0 naming_text [] (state g (record old { in_transaction = true }))
+      (state g last) (Err error)
+  pub undone : IsRolledBack (state g last) (state g new)
+
+-- a call that names the schema tells of the store for no other cause
+abbrev pub NamingEndsForCause : {S T E : Type 0} → Ghosts S → (E → Type 0) → Held S → Held S
+    → Result T E → Type 0
+NamingEndsForCause g IsTold old new result =
+    HasCleanDisk (state g new) → IfErr result (λ fault. IsTold fault
+    → IsCaused (state g old) (state g new) ⊎ IsNamingRefused g old new)

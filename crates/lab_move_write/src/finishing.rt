@@ -1,15 +1,16 @@
 //! A file into which laboratories were carried is finished: its schema is named.
 
-ghost use Rattle.std.specs.Prelude.{◌≡◌, IfOk, IsTrue};
+ghost use Rattle.std.specs.Prelude.{◌≡◌, [], IfOk, IsFalse, IsTrue};
 ghost use Rattle.sqlite.specs.Held.{state};
-ghost use Rattle.sqlite.specs.State.{HasCleanDisk, KeepsCommit, Survives};
+ghost use Rattle.sqlite.specs.State.{ExecutesInside, HasCleanDisk, KeepsCommit, Survives};
 ghost use Rattle.lab_store_tables.specs.Ready.{IsAtRest, IsMadeBy};
 ghost use Rattle.lab_store_read.specs.Cells.{storage};
-ghost use Rattle.lab_store_write.specs.Calls.{FailsFor, Steps, Writes};
-ghost use Rattle.lab_store_write.specs.Transactions.{EndsForCause, TransactionEndsForCause};
+ghost use Rattle.lab_store_read.specs.Faults.{is_out_of_memory};
+ghost use Rattle.lab_store_write.specs.Calls.{Steps, Writes};
+ghost use Rattle.lab_move_write.specs.Causes.{NamingEndsForCause};
 ghost use Rattle.lab_move_write.specs.Commits.{MakesAtOnce};
 ghost use Rattle.lab_move_write.specs.Unfinished.{Finishes};
-ghost use Rattle.lab_move_write.specs.Namings.{NamesSchema};
+ghost use Rattle.lab_move_write.specs.Namings.{NamesSchema, naming_text};
 
 use crate::inside::Inside;
 use lab_store_read::{ReadFault, read_fault};
@@ -19,7 +20,9 @@ use sqlite::{Alter, Connection, Error, Transaction};
 
 // Adds the row that names the schema.
 fn name_schema<W: Writable>(tx: &mut W) -> Result<usize, Error>
-    ensures { Writes W.lender W.state NamesSchema tx.old tx.new result }
+    ensures writes { Writes W.lender W.state NamesSchema tx.old tx.new result }
+    ensures ran { IsTrue (W.state tx.old).in_transaction → HasCleanDisk (W.state tx.new) →
+        ExecutesInside 0 naming_text [] (W.state tx.old) (W.state tx.new) result }
 {
     run(tx, "INSERT INTO desk (schema) VALUES (3)", &[])
 }
@@ -35,7 +38,8 @@ fn name_inside<S: Alter>(tx: &mut Transaction<'_, S>) -> Result<usize, Error>
         (state S.Store tx.old.conn.now) (state S.Store tx.new.conn.now) }
     ensures survives { Survives
         (state S.Store tx.old.conn.now) (state S.Store tx.new.conn.now) (λ _. ⊥) }
-    ensures failed { FailsFor (λ _. ⊥) (state S.Store) tx.old.conn.now tx.new.conn.now result }
+    ensures ran { HasCleanDisk (state S.Store tx.new.conn.now) → ExecutesInside 0 naming_text []
+        (state S.Store tx.old.conn.now) (state S.Store tx.new.conn.now) result }
 {
     let mut inside = Inside { tx };
     let made = name_schema(&mut inside);
@@ -48,7 +52,8 @@ fn commit_name<S: Alter>(conn: &mut Connection<S>) -> Result<(), Error>
     requires at_rest { IsAtRest (state S.Store conn.old) }
     ensures ends { MakesAtOnce (IsMadeBy NamesSchema (state S.Store conn.old)) result
         (state S.Store conn.old) (state S.Store conn.new) }
-    ensures cause { TransactionEndsForCause S.Store ⊥ conn.old conn.new result }
+    ensures cause { NamingEndsForCause S.Store (λ e. IsFalse (is_out_of_memory e))
+        conn.old conn.new result }
 {
     let mut tx = conn.transaction();
     name_inside(&mut tx)?;
@@ -67,7 +72,7 @@ pub fn finish<S: Alter>(conn: &mut Connection<S>) -> Result<(), ReadFault>
     ensures finished { MakesAtOnce (Finishes (state S.Store conn.old).now) result
         (state S.Store conn.old) (state S.Store conn.new) }
     // The store's refusal has its cause:
-    ensures cause { EndsForCause S.Store (λ fault. fault ≡ storage) ⊥ conn.old conn.new result }
+    ensures cause { NamingEndsForCause S.Store (λ fault. fault ≡ storage) conn.old conn.new result }
 {
     match commit_name(conn) {
         Ok(()) => Ok(()),

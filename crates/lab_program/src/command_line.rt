@@ -2,7 +2,7 @@
 
 ghost use Rattle.std.specs.Prelude.{map};
 ghost use Rattle.clap.specs.Words.{fault_of};
-ghost use Rattle.lab_program_host.specs.Sources.{drawing_of};
+ghost use Rattle.lab_program_host.specs.Hosts.{drawing_between, end_between};
 ghost use Rattle.lab_program_app.specs.Apps.{labdesk_app};
 ghost use Rattle.lab_program.specs.CommandLine.{IsDone};
 ghost use Rattle.lab_program_app.specs.Explaining.{IsExplained};
@@ -13,52 +13,45 @@ use crate::laboratories::{copy_for, found_for, rehearse_for};
 use lab_forms_streams::WriteFault;
 use lab_program_app::explain;
 use lab_program_files::{Closable, Progress, Trouble, Volume, serve};
-use lab_program_host::{Chance, Clock, Host};
+use lab_program_host::{Host, Outside, Streams, Writers};
 use lab_program_moves::migrate;
 use lab_program_replay::replay;
 use lab_program_words::{Task, task_of};
 use sqlite::Connection;
 use std::convert::AsStr;
-use std::io::{Read, Write};
-use std::net::Net;
+use std::io::Read;
 
 // Does a task, and answers the status.
-fn do_task<N: Net, H: Volume, C: Clock, X: Chance, P: Progress, R: Read + Drop, W: Write, E: Write>(
-    host: &mut Host<'_, N, H, C, X, P>,
+fn do_task<M: Outside<Volume: Volume, Progress: Progress>, R: Read + Drop, W: Writers>(
+    host: &mut Host<'_, M>,
     task: Task<'_>,
     input: R,
-    output: &mut W,
-    errors: &mut E,
+    streams: &mut Streams<W>,
 ) -> Result<u8, WriteFault>
 where
-    Connection<H::Disk>: Closable,
+    Connection<<M::Volume as Volume>::Disk>: Closable,
     ensures { (asked : Asked) → IsTask task.entry asked →
-        IsDone H.Disk.Store H.file ⟦<Connection<H::Disk> as Closable>⟧.closes host.old.volume
-        (drawing_of (C.coming host.old.clock) (C.coming host.new.clock)
-        (X.coming host.old.chance) (X.coming host.new.chance)) asked (R.remaining input) (record {
-          before = W.contents output.old;
-          after = W.contents output.new;
-          told_before = E.contents errors.old;
-          told_after = E.contents errors.new;
-          status = result;
-        }) }
+        IsDone M.Volume.Disk.Store M.Volume.file
+        ⟦<Connection<<M::Volume as Volume>::Disk> as Closable>⟧.closes host.old.volume
+        (drawing_between M.Clock.coming M.Chance.coming host.old host.new) asked (R.remaining input)
+        (end_between W.Output.contents W.Errors.contents streams.old streams.new result) }
 {
     match task {
-        Task::Found { file, lab } => found_for(host, file, lab, input, output, errors),
-        Task::Serve { file, port, count } => serve(host, file, port, count, output, errors),
+        Task::Found { file, lab } => found_for(host, file, lab, input, streams),
+        Task::Serve { file, port, count } => serve(host, file, port, count, streams),
         Task::Copy {
             file,
             lab,
             from,
             to,
-        } => copy_for(host, file, lab, from, to, output, errors),
-        Task::Migrate { old, new } => migrate(host, old, new, output, errors),
-        Task::Check => check_for(host, input, output, errors),
+        } => copy_for(host, file, lab, from, to, streams),
+        Task::Migrate { old, new } => migrate(host, old, new, streams),
+        Task::Check => check_for(host, input, streams),
         Task::Replay => {
             host.volume.advise(Trouble::EventsAwaited);
-            replay(host.alloc, input, output, errors)
+            replay(host.alloc, input, &mut streams.output, &mut streams.errors)
         }
-        Task::Rehearse { lab, seconds } => rehearse_for(host, lab, seconds, input, output, errors),
+        Task::Rehearse { lab, seconds } => rehearse_for(host, lab, seconds, input, streams),
     }
 }
 
@@ -68,40 +61,24 @@ where
 /// # Errors
 /// A fault of status 1 could not be told whole, as standard error failed.
 pub fn labdesk<
-    N: Net,
-    H: Volume,
-    C: Clock,
-    X: Chance,
-    P: Progress,
+    M: Outside<Volume: Volume, Progress: Progress>,
     S: AsStr,
     R: Read + Drop,
-    W: Write,
-    E: Write,
->(
-    host: &mut Host<'_, N, H, C, X, P>,
-    words: &[S],
-    input: R,
-    output: &mut W,
-    errors: &mut E,
-) -> Result<u8, WriteFault>
+    W: Writers,
+>(host: &mut Host<'_, M>, words: &[S], input: R, streams: &mut Streams<W>) -> Result<u8, WriteFault>
 where
-    Connection<H::Disk>: Closable,
+    Connection<<M::Volume as Volume>::Disk>: Closable,
     ensures done { (asked : Asked) → AsksTask asked (map S.text words.now) →
-        IsDone H.Disk.Store H.file ⟦<Connection<H::Disk> as Closable>⟧.closes host.old.volume
-        (drawing_of (C.coming host.old.clock) (C.coming host.new.clock)
-        (X.coming host.old.chance) (X.coming host.new.chance)) asked (R.remaining input) (record {
-          before = W.contents output.old;
-          after = W.contents output.new;
-          told_before = E.contents errors.old;
-          told_after = E.contents errors.new;
-          status = result;
-        }) }
+        IsDone M.Volume.Disk.Store M.Volume.file
+        ⟦<Connection<<M::Volume as Volume>::Disk> as Closable>⟧.closes host.old.volume
+        (drawing_between M.Clock.coming M.Chance.coming host.old host.new) asked (R.remaining input)
+        (end_between W.Output.contents W.Errors.contents streams.old streams.new result) }
     ensures explained { IsExplained (fault_of labdesk_app (map S.text words.now))
-        (W.contents output.old) (W.contents output.new)
-        (E.contents errors.old) (E.contents errors.new) result }
+        (W.Output.contents streams.old.output) (W.Output.contents streams.new.output)
+        (W.Errors.contents streams.old.errors) (W.Errors.contents streams.new.errors) result }
 {
     match task_of(host.alloc, words) {
-        Ok(task) => do_task(host, task, input, output, errors),
-        Err(error) => explain(&error, output, errors),
+        Ok(task) => do_task(host, task, input, streams),
+        Err(error) => explain(&error, &mut streams.output, &mut streams.errors),
     }
 }

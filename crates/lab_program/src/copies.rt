@@ -8,8 +8,8 @@ ghost use Rattle.lab_program_check.specs.Verdicts.{IsCheck};
 use lab_forms_streams::WriteFault;
 use lab_program_check::{Flaw, check};
 use lab_program_files::{Trouble, Volume};
-use lab_program_host::Host;
-use std::io::{Read, Write};
+use lab_program_host::{Host, Outside, Streams, Writers};
+use std::io::Read;
 
 // Advises a person what a flaw is.
 fn advise_of<H: Volume>(volume: &mut H, flaw: Option<Flaw>) {
@@ -22,18 +22,17 @@ fn advise_of<H: Volume>(volume: &mut H, flaw: Option<Flaw>) {
 ///
 /// # Errors
 /// The check stopped, and standard error failed before the whole line was told.
-pub fn check_for<N, H: Volume, C, X, P, R: Read + Drop, W: Write, E: Write>(
-    host: &mut Host<'_, N, H, C, X, P>,
+pub fn check_for<M: Outside<Volume: Volume>, R: Read + Drop, W: Writers>(
+    host: &mut Host<'_, M>,
     input: R,
-    output: &mut W,
-    errors: &mut E,
+    streams: &mut Streams<W>,
 ) -> Result<u8, WriteFault>
     ensures { IfSome (R.remaining input) (λ bytes. IsCheck (verdict (csv_rows_of bytes)) result
-        (W.contents output.old) (W.contents output.new)
-        (E.contents errors.old) (E.contents errors.new)) }
+        (W.Output.contents streams.old.output) (W.Output.contents streams.new.output)
+        (W.Errors.contents streams.old.errors) (W.Errors.contents streams.new.errors)) }
 {
     host.volume.advise(Trouble::CopyAwaited);
-    match check(host.alloc, input, output, errors) {
+    match check(host.alloc, input, &mut streams.output, &mut streams.errors) {
         Ok(checked) => {
             advise_of(&mut host.volume, checked.flaw);
             Ok(checked.status)

@@ -5,7 +5,7 @@ ghost use Rattle.std.specs.Prelude.{◌≡◌, ℕ, pos, List, IsTrue, Err, nat_
 ghost use Rattle.lab_forms_texts.specs.Moment.{is_moment};
 ghost use Rattle.lab_forms_texts.specs.Ordinals.{is_ordinal};
 ghost use Rattle.lab_program_host.specs.Faults.{PrintsFault};
-ghost use Rattle.lab_program_host.specs.Sources.{drawing_of};
+ghost use Rattle.lab_program_host.specs.Hosts.{drawing_between, end_between};
 ghost use Rattle.lab_program_opening.specs.Ends.{WasClosed};
 ghost use Rattle.lab_program.specs.Laboratories.{IsCopied, IsCopiedIf, IsFounded, IsRehearsed, front_of};
 
@@ -13,12 +13,11 @@ use lab_forms_streams::WriteFault;
 use lab_forms_texts::{LabCode, Moment, Ordinal};
 use lab_program_app::explain_order;
 use lab_program_files::{Closable, Progress, Trouble, Volume, copy, found};
-use lab_program_host::{Chance, Clock, Host, tell};
+use lab_program_host::{Host, Outside, Streams, Writers, tell};
 use lab_program_replay::{LimitedReader, MOST_ASKS};
 use lab_program_serve::rehearse;
 use sqlite::Connection;
 use std::io::{Read, Take, Write};
-use std::net::Net;
 
 /// The most bytes of an input that are read for a founding: one more than its body may have, so that a longer one is seen.
 const FRONT: u64 = 1_000_001;
@@ -45,40 +44,33 @@ fn decline<E: Write>(errors: &mut E, word: &str) -> Result<u8, WriteFault>
 ///
 /// # Errors
 /// A fault could not be told whole, as standard error failed.
-pub fn found_for<N, H: Volume, C: Clock, X: Chance, P, R: Read + Drop, W: Write, E: Write>(
-    host: &mut Host<'_, N, H, C, X, P>,
+pub fn found_for<M: Outside<Volume: Volume>, R: Read + Drop, W: Writers>(
+    host: &mut Host<'_, M>,
     file: &str,
     lab: &str,
     input: R,
-    output: &mut W,
-    errors: &mut E,
+    streams: &mut Streams<W>,
 ) -> Result<u8, WriteFault>
 where
-    Connection<H::Disk>: Closable,
-    ensures { IsFounded H.Disk.Store (H.file host.old.volume file.now)
-        (WasClosed ⟦<Connection<H::Disk> as Closable>⟧.closes) (record {
-          drawing = drawing_of (C.coming host.old.clock) (C.coming host.new.clock)
-              (X.coming host.old.chance) (X.coming host.new.chance);
+    Connection<<M::Volume as Volume>::Disk>: Closable,
+    ensures { IsFounded M.Volume.Disk.Store (M.Volume.file host.old.volume file.now)
+        (WasClosed ⟦<Connection<<M::Volume as Volume>::Disk> as Closable>⟧.closes) (record {
+          drawing = drawing_between M.Clock.coming M.Chance.coming host.old host.new;
           code = lab.now;
           body = R.remaining input;
-        }) (record {
-          before = W.contents output.old;
-          after = W.contents output.new;
-          told_before = E.contents errors.old;
-          told_after = E.contents errors.new;
-          status = result;
-        }) }
+        })
+        (end_between W.Output.contents W.Errors.contents streams.old streams.new result) }
 {
     let code = match LabCode::parse(host.alloc, lab) {
         Ok(code) => code,
         Err(fault) => {
-            let status = decline(errors, fault.word());
+            let status = decline(&mut streams.errors, fault.word());
             host.volume.advise(Trouble::OfCode(lab));
             return status;
         }
     };
     let mut body = front_of(input);
-    found(host, file, &code, &mut body, output, errors)
+    found(host, file, &code, &mut body, streams)
 }
 
 // The number of a record. clap lets no other number through.
@@ -89,41 +81,35 @@ fn ordinal(number: u32) -> Ordinal
 }
 
 // A copy of the records of a range, of the laboratory of this text.
-fn copy_range<N, H: Volume, C: Clock, X, P: Progress, W: Write, E: Write>(
-    host: &mut Host<'_, N, H, C, X, P>,
+fn copy_range<M: Outside<Volume: Volume, Progress: Progress>, W: Writers>(
+    host: &mut Host<'_, M>,
     file: &str,
     lab: &str,
     from: Ordinal,
     to: Ordinal,
-    output: &mut W,
-    errors: &mut E,
+    streams: &mut Streams<W>,
 ) -> Result<u8, WriteFault>
 where
-    Connection<H::Disk>: Closable,
-    ensures { IsCopied H.Disk.Store (H.file host.old.volume file.now)
-        (WasClosed ⟦<Connection<H::Disk> as Closable>⟧.closes) (record {
-          moments = C.coming host.old.clock;
-          later = C.coming host.new.clock;
+    Connection<<M::Volume as Volume>::Disk>: Closable,
+    ensures { IsCopied M.Volume.Disk.Store (M.Volume.file host.old.volume file.now)
+        (WasClosed ⟦<Connection<<M::Volume as Volume>::Disk> as Closable>⟧.closes) (record {
+          moments = M.Clock.coming host.old.clock;
+          later = M.Clock.coming host.new.clock;
           code = lab.now;
           from = from;
           to = to;
-        }) (record {
-          before = W.contents output.old;
-          after = W.contents output.new;
-          told_before = E.contents errors.old;
-          told_after = E.contents errors.new;
-          status = result;
-        }) }
+        })
+        (end_between W.Output.contents W.Errors.contents streams.old streams.new result) }
 {
     let code = match LabCode::parse(host.alloc, lab) {
         Ok(code) => code,
         Err(fault) => {
-            let status = decline(errors, fault.word());
+            let status = decline(&mut streams.errors, fault.word());
             host.volume.advise(Trouble::OfCode(lab));
             return status;
         }
     };
-    copy(host, file, &code, from, to, output, errors)
+    copy(host, file, &code, from, to, streams)
 }
 
 /// `labdesk copy`, of the records from a number to a number, of the laboratory of this text in the
@@ -131,37 +117,31 @@ where
 ///
 /// # Errors
 /// A fault could not be told whole, as standard error failed.
-pub fn copy_for<N, H: Volume, C: Clock, X, P: Progress, W: Write, E: Write>(
-    host: &mut Host<'_, N, H, C, X, P>,
+pub fn copy_for<M: Outside<Volume: Volume, Progress: Progress>, W: Writers>(
+    host: &mut Host<'_, M>,
     file: &str,
     lab: &str,
     from: u32,
     to: u32,
-    output: &mut W,
-    errors: &mut E,
+    streams: &mut Streams<W>,
 ) -> Result<u8, WriteFault>
 where
-    Connection<H::Disk>: Closable,
+    Connection<<M::Volume as Volume>::Disk>: Closable,
     ensures { IsTrue (is_ordinal from) → IsTrue (is_ordinal to) →
-        IsCopiedIf H.Disk.Store (H.file host.old.volume file.now)
-        (WasClosed ⟦<Connection<H::Disk> as Closable>⟧.closes) (record {
-          moments = C.coming host.old.clock;
-          later = C.coming host.new.clock;
+        IsCopiedIf M.Volume.Disk.Store (M.Volume.file host.old.volume file.now)
+        (WasClosed ⟦<Connection<<M::Volume as Volume>::Disk> as Closable>⟧.closes) (record {
+          moments = M.Clock.coming host.old.clock;
+          later = M.Clock.coming host.new.clock;
           code = lab.now;
           from = from;
           to = to;
-        }) (nat_le from to) (record {
-          before = W.contents output.old;
-          after = W.contents output.new;
-          told_before = E.contents errors.old;
-          told_after = E.contents errors.new;
-          status = result;
-        }) }
+        }) (nat_le from to)
+        (end_between W.Output.contents W.Errors.contents streams.old streams.new result) }
 {
     if from > to {
-        return explain_order(host.alloc, output, errors);
+        return explain_order(host.alloc, &mut streams.output, &mut streams.errors);
     }
-    copy_range(host, file, lab, ordinal(from), ordinal(to), output, errors)
+    copy_range(host, file, lab, ordinal(from), ordinal(to), streams)
 }
 
 /// `labdesk rehearse`, of the laboratory of this text after so many seconds, its body being all of the input. Answers the
@@ -169,36 +149,30 @@ where
 ///
 /// # Errors
 /// A fault could not be told whole, as standard error failed.
-pub fn rehearse_for<N: Net, H: Volume, C, X, P, R: Read + Drop, W: Write, E: Write>(
-    host: &mut Host<'_, N, H, C, X, P>,
+pub fn rehearse_for<M: Outside<Volume: Volume>, R: Read + Drop, W: Writers>(
+    host: &mut Host<'_, M>,
     lab: &str,
     seconds: i64,
     input: R,
-    output: &mut W,
-    errors: &mut E,
+    streams: &mut Streams<W>,
 ) -> Result<u8, WriteFault>
     ensures { (moment : ℕ) → IsTrue (is_moment moment) → seconds ≡ pos moment →
-        IsRehearsed lab.now (R.remaining input) (record {
-          before = W.contents output.old;
-          after = W.contents output.new;
-          told_before = E.contents errors.old;
-          told_after = E.contents errors.new;
-          status = result;
-        }) }
+        IsRehearsed lab.now (R.remaining input)
+        (end_between W.Output.contents W.Errors.contents streams.old streams.new result) }
 {
     let moment = match Moment::from_seconds(seconds) {
         Ok(moment) => moment,
-        Err(fault) => return decline(errors, fault.word()),
+        Err(fault) => return decline(&mut streams.errors, fault.word()),
     };
     let code = match LabCode::parse(host.alloc, lab) {
         Ok(code) => code,
         Err(fault) => {
-            let status = decline(errors, fault.word());
+            let status = decline(&mut streams.errors, fault.word());
             host.volume.advise(Trouble::OfCode(lab));
             return status;
         }
     };
     host.volume.advise(Trouble::FoundingAwaited);
     let mut body = front_of(input);
-    rehearse(host, &code, moment, &mut body, output, errors)
+    rehearse(host, &code, moment, &mut body, streams)
 }

@@ -7,8 +7,10 @@ mod copies;
 mod laboratories;
 
 use command_line::labdesk;
-use lab_program_files::Host;
-use lab_program_machine::{HostVolume, Supposed, SystemChance, SystemClock, TerminalProgress};
+use lab_program_files::{Host, Streams};
+use lab_program_machine::{
+    Console, HostVolume, Machine, Supposed, SystemChance, SystemClock, TerminalProgress,
+};
 use sqlite::Wary;
 use std::io::{self, ErrorKind, Write};
 use std::process::ExitCode;
@@ -28,8 +30,7 @@ const NO_TEXT_STATUS: u8 = 2;
 
 // Does what the words ask for, over files of which this is supposed, and answers the status.
 fn status_of<S: Supposed>(rt: &HostRuntime, words: &[String], start: S) -> u8 {
-    let (mut output, mut errors) = (rt.stdout(), rt.stderr());
-    let mut host = Host {
+    let mut host: Host<'_, Machine<'_, S>> = Host {
         alloc: rt.alloc(),
         net: rt,
         volume: HostVolume::new(rt, start),
@@ -37,8 +38,11 @@ fn status_of<S: Supposed>(rt: &HostRuntime, words: &[String], start: S) -> u8 {
         chance: SystemChance::new(rt),
         progress: TerminalProgress::new(rt),
     };
-    let input = rt.stdin();
-    let status = labdesk(&mut host, words, input, &mut output, &mut errors);
+    let mut streams: Streams<Console> = Streams {
+        output: rt.stdout(),
+        errors: rt.stderr(),
+    };
+    let status = labdesk(&mut host, words, rt.stdin(), &mut streams);
     status.unwrap_or(UNTOLD)
 }
 

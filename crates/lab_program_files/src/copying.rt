@@ -4,13 +4,14 @@ ghost use Rattle.std.specs.Prelude.{◌≡◌, IfErr, IfOk, IfSome, MatchOption}
 ghost use Rattle.std.specs.Io.KnownBytes.{Keeps};
 ghost use Rattle.lab_program_files.specs.Copying.{CopiesTo, IsCopying};
 ghost use Rattle.lab_program_files.specs.FileWorlds.{file_keeper};
+ghost use Rattle.lab_program_host.specs.Hosts.{end_between};
 ghost use Rattle.lab_program_opening.specs.Ends.{WasClosed};
 ghost use Rattle.lab_program_opening.specs.Files.{IsOurs, IsUnopened};
 
 use crate::files::open_file;
 use lab_forms_streams::WriteFault;
 use lab_forms_texts::{LabCode, Ordinal};
-use lab_program_host::{Clock, Host};
+use lab_program_host::{Clock, Host, Outside, Streams, Writers};
 use lab_program_opening::{
     Closable, Ended, Finished, OpenFault, Trouble, Volume, decline, decline_to_open,
 };
@@ -21,32 +22,32 @@ use std::io::Write;
 
 // Copies the records of a laboratory of the file at the path, as of a moment of the clock. Answers
 // how the copy ended, where one was begun, and the connection, which is left to be closed.
-fn copy_file<N, H: Volume, C: Clock, X, P: Progress, W: Write>(
-    host: &mut Host<'_, N, H, C, X, P>,
+fn copy_file<M: Outside<Volume: Volume, Progress: Progress>, W: Write>(
+    host: &mut Host<'_, M>,
     path: &str,
     lab: &LabCode,
     from: Ordinal,
     to: Ordinal,
     output: &mut W,
-) -> Ended<Result<Result<(), CopyOutFault>, OpenFault>, H::Disk>
+) -> Ended<Result<Result<(), CopyOutFault>, OpenFault>, <M::Volume as Volume>::Disk>
 where
-    Connection<H::Disk>: Closable,
-    ensures copies { IfOk result.ending (λ ending. CopiesTo (file_keeper H.Disk.Store) (record {
-      moments = C.coming host.old.clock;
-      later = C.coming host.new.clock;
+    Connection<<M::Volume as Volume>::Disk>: Closable,
+    ensures copies { IfOk result.ending (λ ending. CopiesTo (file_keeper M.Volume.Disk.Store) (record {
+      moments = M.Clock.coming host.old.clock;
+      later = M.Clock.coming host.new.clock;
       code = lab.now;
       from = from;
       to = to;
-    }) (IsOurs H.Disk.Store (H.file host.old.volume path.now).holds)
+    }) (IsOurs M.Volume.Disk.Store (M.Volume.file host.old.volume path.now).holds)
         (W.contents output.old) (W.contents output.new) ending result.finished) }
     ensures unbegun { IfErr result.ending
         (λ _. Keeps (W.contents output.old) (W.contents output.new)) }
     ensures untouched { IfErr result.ending (λ _. IfSome result.finished
-        (IsOurs H.Disk.Store (H.file host.old.volume path.now).holds)) }
+        (IsOurs M.Volume.Disk.Store (M.Volume.file host.old.volume path.now).holds)) }
     ensures cause { IfErr result.ending (λ fault. MatchOption result.finished
-        (IsUnopened H.Disk.Store
-        (WasClosed ⟦<Connection<H::Disk> as Closable>⟧.closes)
-        (H.file host.old.volume path.now) fault)
+        (IsUnopened M.Volume.Disk.Store
+        (WasClosed ⟦<Connection<<M::Volume as Volume>::Disk> as Closable>⟧.closes)
+        (M.Volume.file host.old.volume path.now) fault)
         (λ _. fault ≡ OpenFault.Drawing)) }
 {
     let mut store = match open_file(host.alloc, &mut host.volume, path) {
@@ -89,41 +90,41 @@ where
 ///
 /// # Errors
 /// It stopped, and standard error failed before the whole line was told.
-pub fn copy<N, H: Volume, C: Clock, X, P: Progress, W: Write, E: Write>(
-    host: &mut Host<'_, N, H, C, X, P>,
+pub fn copy<M: Outside<Volume: Volume, Progress: Progress>, W: Writers>(
+    host: &mut Host<'_, M>,
     path: &str,
     lab: &LabCode,
     from: Ordinal,
     to: Ordinal,
-    output: &mut W,
-    errors: &mut E,
+    streams: &mut Streams<W>,
 ) -> Result<u8, WriteFault>
 where
-    Connection<H::Disk>: Closable,
-    ensures { IsCopying (file_keeper H.Disk.Store) (record {
-      moments = C.coming host.old.clock;
-      later = C.coming host.new.clock;
+    Connection<<M::Volume as Volume>::Disk>: Closable,
+    ensures { IsCopying (file_keeper M.Volume.Disk.Store) (record {
+      moments = M.Clock.coming host.old.clock;
+      later = M.Clock.coming host.new.clock;
       code = lab.now;
       from = from;
       to = to;
-    }) (IsOurs H.Disk.Store (H.file host.old.volume path.now).holds)
-        (WasClosed ⟦<Connection<H::Disk> as Closable>⟧.closes)
-        (IsUnopened H.Disk.Store
-        (WasClosed ⟦<Connection<H::Disk> as Closable>⟧.closes)
-        (H.file host.old.volume path.now)) (record {
-          before = W.contents output.old;
-          after = W.contents output.new;
-          told_before = E.contents errors.old;
-          told_after = E.contents errors.new;
-          status = result;
-        }) }
+    }) (IsOurs M.Volume.Disk.Store (M.Volume.file host.old.volume path.now).holds)
+        (WasClosed ⟦<Connection<<M::Volume as Volume>::Disk> as Closable>⟧.closes)
+        (IsUnopened M.Volume.Disk.Store
+        (WasClosed ⟦<Connection<<M::Volume as Volume>::Disk> as Closable>⟧.closes)
+        (M.Volume.file host.old.volume path.now))
+        (end_between W.Output.contents W.Errors.contents streams.old streams.new result) }
 {
-    match copy_file(host, path, lab, from, to, output).close() {
+    match copy_file(host, path, lab, from, to, &mut streams.output).close() {
         Ok(Ok(())) => Ok(0),
         Ok(Err(fault)) => {
             let trouble = Trouble::Copying(path, fault);
-            decline(&mut host.volume, errors, fault.word(), trouble)
+            decline(&mut host.volume, &mut streams.errors, fault.word(), trouble)
         }
-        Err(fault) => decline_to_open(host.alloc, &mut host.volume, errors, path, fault),
+        Err(fault) => decline_to_open(
+            host.alloc,
+            &mut host.volume,
+            &mut streams.errors,
+            path,
+            fault,
+        ),
     }
 }

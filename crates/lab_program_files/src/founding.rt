@@ -6,7 +6,8 @@ ghost use Rattle.lab_program_opening.specs.Ends.{WasClosed};
 ghost use Rattle.lab_program_opening.specs.Files.{IsOpened, IsUnmade};
 ghost use Rattle.lab_program_files.specs.Foundings.{Ends, EndsAs, IsFounding, Prints};
 ghost use Rattle.lab_program_host.specs.Faults.{IsReaderFault};
-ghost use Rattle.lab_program_host.specs.Sources.{IsDrawn, drawing_of};
+ghost use Rattle.lab_program_host.specs.Hosts.{drawing_between, end_between};
+ghost use Rattle.lab_program_host.specs.Sources.{IsDrawn};
 ghost use Rattle.std.specs.Io.KnownBytes.{Keeps};
 ghost use Rattle.std.specs.Prelude.{◌≡◌, None, IfErr, IfOk, IfSome};
 ghost use Rattle.lab_records_keeper.specs.Worlds.{Passes};
@@ -16,7 +17,7 @@ ghost use Rattle.lab_program_host.specs.declared.faults.RehearsalFault.TheVarian
 use crate::files::make_file;
 use lab_forms_streams::{WriteFault, write_whole};
 use lab_forms_texts::{LabCode, OutOfMemory, Tick};
-use lab_program_host::{Chance, Clock, FoundFault, Host, ServerFault, draw, read_all};
+use lab_program_host::{FoundFault, Host, Outside, ServerFault, Streams, Writers, draw, read_all};
 use lab_program_opening::{
     Closable, Ended, Finished, FoundingFault, OpenFault, Trouble, Volume, decline, decline_to_open,
 };
@@ -45,8 +46,8 @@ struct Intake {
 }
 
 // Takes what a founding needs. The tick is drawn once the body is read.
-fn intake_of<N, H, C: Clock, X: Chance, P, B: Read>(
-    host: &mut Host<'_, N, H, C, X, P>,
+fn intake_of<M: Outside, B: Read>(
+    host: &mut Host<'_, M>,
     lab: &LabCode,
     body: &mut B,
 ) -> Result<Intake, ServerFault>
@@ -54,8 +55,7 @@ fn intake_of<N, H, C: Clock, X: Chance, P, B: Read>(
     ensures body { IfOk result (λ taken.
         IfSome (B.remaining body.old) (λ all. taken.bytes.items ≡ all)) }
     ensures tick { IfOk result (λ taken. IsDrawn
-        (drawing_of (C.coming host.old.clock) (C.coming host.new.clock)
-        (X.coming host.old.chance) (X.coming host.new.chance)) taken.tick) }
+        (drawing_between M.Clock.coming M.Chance.coming host.old host.new) taken.tick) }
     ensures fault { IfErr result IsReaderFault }
 {
     let line = founded_line(host.alloc, lab)?;
@@ -96,16 +96,15 @@ fn founding_noted<H: Volume>(
 /// # Errors
 /// Those of the founding; the body, the clock or the source of random words failed, or memory ran
 /// out before: nothing was done. Where the output failed, the laboratory is founded all the same.
-pub fn found_over<N, H: Volume, C: Clock, X: Chance, P, S: Keeper + Drop, B: Read, W: Write>(
-    host: &mut Host<'_, N, H, C, X, P>,
+pub fn found_over<M: Outside<Volume: Volume>, S: Keeper + Drop, B: Read, W: Write>(
+    host: &mut Host<'_, M>,
     desk: &mut Desk<S>,
     lab: &LabCode,
     body: &mut B,
     output: &mut W,
 ) -> Result<(), FoundingFault>
     ensures ends { Ends S.Keeper (record {
-      drawing = drawing_of (C.coming host.old.clock) (C.coming host.new.clock)
-          (X.coming host.old.chance) (X.coming host.new.chance);
+      drawing = drawing_between M.Clock.coming M.Chance.coming host.old host.new;
       code = lab.now;
       body = B.remaining body.old;
     }) desk.old.keeper desk.new.keeper result }
@@ -127,29 +126,28 @@ pub fn found_over<N, H: Volume, C: Clock, X: Chance, P, S: Keeper + Drop, B: Rea
 
 // Founds a laboratory in the file at the path. Answers how the founding ended, where one was begun,
 // and the connection, which is left to be closed.
-fn found_in_file<N, H: Volume, C: Clock, X: Chance, P, B: Read, W: Write>(
-    host: &mut Host<'_, N, H, C, X, P>,
+fn found_in_file<M: Outside<Volume: Volume>, B: Read, W: Write>(
+    host: &mut Host<'_, M>,
     path: &str,
     lab: &LabCode,
     body: &mut B,
     output: &mut W,
-) -> Ended<Result<Result<(), FoundingFault>, OpenFault>, H::Disk>
+) -> Ended<Result<Result<(), FoundingFault>, OpenFault>, <M::Volume as Volume>::Disk>
 where
-    Connection<H::Disk>: Closable,
-    ensures ends { IfOk result.ending (λ ending. EndsAs (file_keeper H.Disk.Store) (record {
-      drawing = drawing_of (C.coming host.old.clock) (C.coming host.new.clock)
-          (X.coming host.old.chance) (X.coming host.new.chance);
+    Connection<<M::Volume as Volume>::Disk>: Closable,
+    ensures ends { IfOk result.ending (λ ending. EndsAs (file_keeper M.Volume.Disk.Store) (record {
+      drawing = drawing_between M.Clock.coming M.Chance.coming host.old host.new;
       code = lab.now;
       body = B.remaining body.old;
-    }) (IsOpened H.Disk.Store (H.file host.old.volume path.now).holds) ending result.finished) }
+    }) (IsOpened M.Volume.Disk.Store (M.Volume.file host.old.volume path.now).holds) ending result.finished) }
     ensures prints { IfOk result.ending (λ ending. Prints (founded_line lab.now) ending
         (W.contents output.old) (W.contents output.new)) }
     ensures unbegun { IfErr result.ending
         (λ _. Keeps (W.contents output.old) (W.contents output.new)) }
     ensures unopened { IfErr result.ending (λ _. result.finished ≡ None) }
-    ensures cause { IfErr result.ending (IsUnmade H.Disk.Store
-        (WasClosed ⟦<Connection<H::Disk> as Closable>⟧.closes)
-        (H.file host.old.volume path.now)) }
+    ensures cause { IfErr result.ending (IsUnmade M.Volume.Disk.Store
+        (WasClosed ⟦<Connection<<M::Volume as Volume>::Disk> as Closable>⟧.closes)
+        (M.Volume.file host.old.volume path.now)) }
 {
     let store = match make_file(host.alloc, &mut host.volume, path) {
         Ok(store) => store,
@@ -181,39 +179,38 @@ where
 ///
 /// # Errors
 /// It failed, and standard error failed before the whole line was told.
-pub fn found<N, H: Volume, C: Clock, X: Chance, P, B: Read, W: Write, E: Write>(
-    host: &mut Host<'_, N, H, C, X, P>,
+pub fn found<M: Outside<Volume: Volume>, B: Read, W: Writers>(
+    host: &mut Host<'_, M>,
     path: &str,
     lab: &LabCode,
     body: &mut B,
-    output: &mut W,
-    errors: &mut E,
+    streams: &mut Streams<W>,
 ) -> Result<u8, WriteFault>
 where
-    Connection<H::Disk>: Closable,
-    ensures { IsFounding (file_keeper H.Disk.Store) (record {
-      drawing = drawing_of (C.coming host.old.clock) (C.coming host.new.clock)
-          (X.coming host.old.chance) (X.coming host.new.chance);
+    Connection<<M::Volume as Volume>::Disk>: Closable,
+    ensures { IsFounding (file_keeper M.Volume.Disk.Store) (record {
+      drawing = drawing_between M.Clock.coming M.Chance.coming host.old host.new;
       code = lab.now;
       body = B.remaining body.old;
-    }) (IsOpened H.Disk.Store (H.file host.old.volume path.now).holds)
-        (WasClosed ⟦<Connection<H::Disk> as Closable>⟧.closes)
-        (IsUnmade H.Disk.Store
-        (WasClosed ⟦<Connection<H::Disk> as Closable>⟧.closes)
-        (H.file host.old.volume path.now)) (record {
-          before = W.contents output.old;
-          after = W.contents output.new;
-          told_before = E.contents errors.old;
-          told_after = E.contents errors.new;
-          status = result;
-        }) }
+    }) (IsOpened M.Volume.Disk.Store (M.Volume.file host.old.volume path.now).holds)
+        (WasClosed ⟦<Connection<<M::Volume as Volume>::Disk> as Closable>⟧.closes)
+        (IsUnmade M.Volume.Disk.Store
+        (WasClosed ⟦<Connection<<M::Volume as Volume>::Disk> as Closable>⟧.closes)
+        (M.Volume.file host.old.volume path.now))
+        (end_between W.Output.contents W.Errors.contents streams.old streams.new result) }
 {
-    match found_in_file(host, path, lab, body, output).close() {
+    match found_in_file(host, path, lab, body, &mut streams.output).close() {
         Ok(Ok(())) => Ok(0),
         Ok(Err(fault)) => {
             let trouble = Trouble::Founding(path, fault);
-            decline(&mut host.volume, errors, fault.word(), trouble)
+            decline(&mut host.volume, &mut streams.errors, fault.word(), trouble)
         }
-        Err(fault) => decline_to_open(host.alloc, &mut host.volume, errors, path, fault),
+        Err(fault) => decline_to_open(
+            host.alloc,
+            &mut host.volume,
+            &mut streams.errors,
+            path,
+            fault,
+        ),
     }
 }

@@ -13,7 +13,7 @@ mod starts;
 pub use copying::copy;
 pub use founding::{found, found_over};
 pub use histories::{a_history_begins, an_installation_goes_on_alone, what_a_task_does_is_a_run};
-pub use lab_program_host::{Chance, Clock, Host};
+pub use lab_program_host::{Chance, Clock, Host, Outside, Streams, Writers};
 pub use lab_program_opening::{
     Closable, FoundingFault, OpenFault, Progress, Trouble, Unheard, Volume,
 };

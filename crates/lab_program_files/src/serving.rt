@@ -5,13 +5,13 @@ ghost use Rattle.lab_program_opening.specs.Ends.{WasClosed, WasGivenUp};
 ghost use Rattle.lab_program_opening.specs.Files.{IsOurs, IsOursAnywhere, IsUnopened};
 ghost use Rattle.lab_program_opening.specs.Faults.{Declines};
 ghost use Rattle.lab_program_files.specs.Serving.{ServesAs, ServesFile};
-ghost use Rattle.lab_program_host.specs.Sources.{drawing_of};
+ghost use Rattle.lab_program_host.specs.Hosts.{drawing_between, end_between};
 ghost use Rattle.std.specs.Prelude.{◌≡◌, option_map, IfErr, IfOk, IsSomeAnd};
 
 use crate::files::open_file;
 use crate::opening::{FileOpener, close_uncut};
 use lab_forms_streams::WriteFault;
-use lab_program_host::{Chance, Clock, Host, ServerFault};
+use lab_program_host::{Host, Outside, ServerFault, Streams, Writers};
 use lab_program_opening::{
     Additions, Closable, Ended, Finished, OpenFault, Trouble, Volume, decline, decline_by,
     decline_to_open,
@@ -21,7 +21,6 @@ use lab_store::Store;
 use sqlite::{Alter, Connection};
 use std::alloc::Global;
 use std::io::Write;
-use std::net::Net;
 
 // A live desk with a desk over the file at the path.
 fn live_desk_opened<'p, H: Volume>(
@@ -47,9 +46,8 @@ where
 }
 
 // Tells why no file was opened to be served, and answers the status of a fault.
-fn decline_to_serve<H: Volume, E: Write>(
-    alloc: Global,
-    volume: &mut H,
+fn decline_to_serve<M: Outside<Volume: Volume>, E: Write>(
+    host: &mut Host<'_, M>,
     errors: &mut E,
     path: &str,
     port: u16,
@@ -58,8 +56,11 @@ fn decline_to_serve<H: Volume, E: Write>(
     ensures { Declines fault result (E.contents errors.old) (E.contents errors.new) }
 {
     match fault {
-        OpenFault::Drawing => decline_by(alloc, volume, errors, fault, Trouble::AtPort(port)),
-        OpenFault::File(_) => decline_to_open(alloc, volume, errors, path, fault),
+        OpenFault::Drawing => {
+            let trouble = Trouble::AtPort(port);
+            decline_by(host.alloc, &mut host.volume, errors, fault, trouble)
+        }
+        OpenFault::File(_) => decline_to_open(host.alloc, &mut host.volume, errors, path, fault),
     }
 }
 
@@ -75,49 +76,43 @@ fn left_of<S: Alter + Drop>(live_desk: LiveDesk<Store<S>, FileOpener<'_>>) -> Op
 
 // Serves the laboratories of the file at the path. Answers the status, and the connection, which is
 // left to be closed.
-fn serve_file<N: Net, H: Volume, C: Clock, X: Chance, P, W: Write, E: Write>(
-    host: &mut Host<'_, N, H, C, X, P>,
+fn serve_file<M: Outside<Volume: Volume>, W: Writers>(
+    host: &mut Host<'_, M>,
     path: &str,
     port: u16,
     count: u32,
-    output: &mut W,
-    errors: &mut E,
-) -> Ended<Result<u8, WriteFault>, H::Disk>
+    streams: &mut Streams<W>,
+) -> Ended<Result<u8, WriteFault>, <M::Volume as Volume>::Disk>
 where
-    Connection<H::Disk>: Closable,
-    ensures { ServesAs (file_keeper H.Disk.Store)
-        (IsOurs H.Disk.Store (H.file host.old.volume path.now).holds)
-        (IsOursAnywhere H.Disk.Store H.file)
-        (WasGivenUp ⟦<Connection<H::Disk> as Closable>⟧.closes H.file)
-        (IsUnopened H.Disk.Store
-        (WasClosed ⟦<Connection<H::Disk> as Closable>⟧.closes)
-        (H.file host.old.volume path.now))
-        (drawing_of (C.coming host.old.clock) (C.coming host.new.clock)
-        (X.coming host.old.chance) (X.coming host.new.chance)) count (record {
-          before = W.contents output.old;
-          after = W.contents output.new;
-          told_before = E.contents errors.old;
-          told_after = E.contents errors.new;
-          status = result.ending;
-        }) result.finished }
+    Connection<<M::Volume as Volume>::Disk>: Closable,
+    ensures { ServesAs (file_keeper M.Volume.Disk.Store)
+        (IsOurs M.Volume.Disk.Store (M.Volume.file host.old.volume path.now).holds)
+        (IsOursAnywhere M.Volume.Disk.Store M.Volume.file)
+        (WasGivenUp ⟦<Connection<<M::Volume as Volume>::Disk> as Closable>⟧.closes M.Volume.file)
+        (IsUnopened M.Volume.Disk.Store
+        (WasClosed ⟦<Connection<<M::Volume as Volume>::Disk> as Closable>⟧.closes)
+        (M.Volume.file host.old.volume path.now))
+        (drawing_between M.Clock.coming M.Chance.coming host.old host.new) count
+        (end_between W.Output.contents W.Errors.contents streams.old streams.new result.ending)
+        result.finished }
 {
     let mut live_desk = match live_desk_opened(host.alloc, &mut host.volume, path) {
         Ok(live_desk) => live_desk,
         Err(fault) => {
             return Ended {
-                ending: decline_to_serve(host.alloc, &mut host.volume, errors, path, port, fault),
+                ending: decline_to_serve(host, &mut streams.errors, path, port, fault),
                 finished: None,
             };
         }
     };
     let Ok(listener) = listen(host.net, port) else {
-        let word = ServerFault::Read.word();
+        let (word, trouble) = (ServerFault::Read.word(), Trouble::AtPort(port));
         return Ended {
-            ending: decline(&mut host.volume, errors, word, Trouble::AtPort(port)),
+            ending: decline(&mut host.volume, &mut streams.errors, word, trouble),
             finished: left_of(live_desk),
         };
     };
-    let ending = lab_program_serve::serve(host, &mut live_desk, listener, count, output, errors);
+    let ending = lab_program_serve::serve(host, &mut live_desk, listener, count, streams);
     Ended {
         ending,
         finished: left_of(live_desk),
@@ -132,33 +127,26 @@ where
 ///
 /// # Errors
 /// It stopped, and standard error failed before the whole line was told.
-pub fn serve<N: Net, H: Volume, C: Clock, X: Chance, P, W: Write, E: Write>(
-    host: &mut Host<'_, N, H, C, X, P>,
+pub fn serve<M: Outside<Volume: Volume>, W: Writers>(
+    host: &mut Host<'_, M>,
     path: &str,
     port: u16,
     count: u32,
-    output: &mut W,
-    errors: &mut E,
+    streams: &mut Streams<W>,
 ) -> Result<u8, WriteFault>
 where
-    Connection<H::Disk>: Closable,
-    ensures { ServesFile (file_keeper H.Disk.Store)
-        (IsOurs H.Disk.Store (H.file host.old.volume path.now).holds)
-        (IsOursAnywhere H.Disk.Store H.file)
-        (WasGivenUp ⟦<Connection<H::Disk> as Closable>⟧.closes H.file)
-        (IsUnopened H.Disk.Store
-        (WasClosed ⟦<Connection<H::Disk> as Closable>⟧.closes)
-        (H.file host.old.volume path.now))
-        (drawing_of (C.coming host.old.clock) (C.coming host.new.clock)
-        (X.coming host.old.chance) (X.coming host.new.chance)) count (record {
-          before = W.contents output.old;
-          after = W.contents output.new;
-          told_before = E.contents errors.old;
-          told_after = E.contents errors.new;
-          status = result;
-        }) }
+    Connection<<M::Volume as Volume>::Disk>: Closable,
+    ensures { ServesFile (file_keeper M.Volume.Disk.Store)
+        (IsOurs M.Volume.Disk.Store (M.Volume.file host.old.volume path.now).holds)
+        (IsOursAnywhere M.Volume.Disk.Store M.Volume.file)
+        (WasGivenUp ⟦<Connection<<M::Volume as Volume>::Disk> as Closable>⟧.closes M.Volume.file)
+        (IsUnopened M.Volume.Disk.Store
+        (WasClosed ⟦<Connection<<M::Volume as Volume>::Disk> as Closable>⟧.closes)
+        (M.Volume.file host.old.volume path.now))
+        (drawing_between M.Clock.coming M.Chance.coming host.old host.new) count
+        (end_between W.Output.contents W.Errors.contents streams.old streams.new result) }
 {
-    let Ended { ending, finished } = serve_file(host, path, port, count, output, errors);
+    let Ended { ending, finished } = serve_file(host, path, port, count, streams);
     if let Some(finished) = finished {
         close_uncut(&mut host.volume, path, finished);
     }

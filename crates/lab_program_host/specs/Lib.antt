@@ -1,4 +1,5 @@
 pub mod Sources
 pub mod Faults
 pub mod TaskEnds
+pub mod Hosts
 pub mod Renewing

@@ -4,7 +4,7 @@ ghost use Rattle.std.specs.Prelude.{◌≡◌, None};
 ghost use Rattle.lab_forms_streams.specs.Sending.{read_fault_word};
 ghost use Rattle.lab_program_host.specs.Faults.{server_fault_number, server_fault_word, connection_fault_number, connection_fault_word, rehearsal_fault_word};
 
-use crate::outside::DrawFault;
+use crate::drawing::DrawFault;
 use lab_desk_foundings::{FoundFault, ServeFault};
 use lab_forms_streams::WriteFault;
 use lab_forms_texts::OutOfMemory;

@@ -3,19 +3,21 @@
 //! program there, and how a fault is printed on standard error.
 #![tactic(auto)]
 
+mod drawing;
 mod faults;
 mod hosts;
-mod outside;
 mod reading;
 mod renewing;
+mod streams;
 mod told;
 
+pub use drawing::{Chance, Clock, DrawFault, draw};
 pub use faults::{ConnectionFault, ListenFault, RehearsalFault, ServerFault};
-pub use hosts::Host;
+pub use hosts::{Host, Outside};
 pub use lab_desk_foundings::{FoundFault, ServeFault};
 pub use lab_forms_streams::WriteFault;
 pub use lab_forms_texts::{Moment, Tick};
-pub use outside::{Chance, Clock, DrawFault, draw};
 pub use reading::read_all;
 pub use renewing::{Renewable, renew};
+pub use streams::{Streams, Writers};
 pub use told::tell;

@@ -6,8 +6,10 @@ mod asides;
 mod held;
 mod hosts;
 mod machine;
+mod outside;
 mod places;
 mod stats;
 
 pub use crate::hosts::{HostVolume, Supposed};
 pub use crate::machine::{SystemChance, SystemClock, TerminalProgress};
+pub use crate::outside::{Console, Machine};

@@ -4,6 +4,7 @@ ghost use Rattle.std.specs.Prelude.{◌⊎◌, IfErr, IfOk};
 ghost use Rattle.sqlite.specs.Held.{state};
 ghost use Rattle.lab_store_files.specs.NewFiles.{IsBlank};
 ghost use Rattle.lab_store_tables.specs.Ready.{IsAtRest};
+ghost use Rattle.lab_program_host.specs.Hosts.{end_between};
 ghost use Rattle.lab_program_opening.specs.Ends.{WasClosed};
 ghost use Rattle.lab_program_opening.specs.Volumes.{IsOfFile, IsRefusedBy};
 ghost use Rattle.lab_program_opening.specs.Faults.{TellsWord};
@@ -12,7 +13,7 @@ ghost use Rattle.lab_program_moves.specs.Moves.{IsAsked, IsMigration, MovesTo, P
 use lab_forms_streams::{WriteFault, write_whole};
 use lab_forms_texts::{LabCode, OutOfMemory};
 use lab_move::{MoveEnd, MoveFault, MoveProgress, OldFile};
-use lab_program_host::{Host, ServerFault, tell};
+use lab_program_host::{Host, Outside, ServerFault, Streams, Writers, tell};
 use lab_program_opening::{
     Closable, Ended, Finished, OpenFault, Trouble, Volume, decline, decline_by, open_new, open_old,
 };
@@ -67,26 +68,17 @@ fn word_told<E: Write>(errors: &mut E, word: &str) -> Result<u8, WriteFault>
 }
 
 // Prints how many laboratories were moved, and answers the status.
-fn print<W: Write, E: Write>(
-    alloc: Global,
-    count: u64,
-    output: &mut W,
-    errors: &mut E,
-) -> Result<u8, WriteFault>
-    ensures { Prints (record {
-      before = W.contents output.old;
-      after = W.contents output.new;
-      told_before = E.contents errors.old;
-      told_after = E.contents errors.new;
-      status = result;
-    }) (migrated_line count) }
+fn print<W: Writers>(alloc: Global, count: u64, streams: &mut Streams<W>) -> Result<u8, WriteFault>
+    ensures { Prints
+        (end_between W.Output.contents W.Errors.contents streams.old streams.new result)
+        (migrated_line count) }
 {
     let Ok(line) = format!(in alloc; "migrated {count}\n") else {
-        return word_told(errors, OutOfMemory.word());
+        return word_told(&mut streams.errors, OutOfMemory.word());
     };
-    match write_whole(output, line.as_bytes()) {
+    match write_whole(&mut streams.output, line.as_bytes()) {
         Ok(()) => Ok(0),
-        Err(_) => word_told(errors, ServerFault::Write.word()),
+        Err(_) => word_told(&mut streams.errors, ServerFault::Write.word()),
     }
 }
 
@@ -163,45 +155,51 @@ fn count_moved<H: Volume>(
 ///
 /// # Errors
 /// It stopped, and standard error failed before the whole line was told.
-pub fn migrate<N, H: Volume, C, X, P, W: Write, E: Write>(
-    host: &mut Host<'_, N, H, C, X, P>,
+pub fn migrate<M: Outside<Volume: Volume>, W: Writers>(
+    host: &mut Host<'_, M>,
     old: &str,
     new: &str,
-    output: &mut W,
-    errors: &mut E,
+    streams: &mut Streams<W>,
 ) -> Result<u8, WriteFault>
 where
-    Connection<H::Disk>: Closable,
-    ensures { IsMigration H.Disk.Store H.file
-        (WasClosed ⟦<Connection<H::Disk> as Closable>⟧.closes)
-        (record { volume = host.old.volume; old = old.now; new = new.now }) (record {
-          before = W.contents output.old;
-          after = W.contents output.new;
-          told_before = E.contents errors.old;
-          told_after = E.contents errors.new;
-          status = result;
-        }) }
+    Connection<<M::Volume as Volume>::Disk>: Closable,
+    ensures { IsMigration M.Volume.Disk.Store M.Volume.file
+        (WasClosed ⟦<Connection<<M::Volume as Volume>::Disk> as Closable>⟧.closes)
+        (record { volume = host.old.volume; old = old.now; new = new.now })
+        (end_between W.Output.contents W.Errors.contents streams.old streams.new result) }
 {
     let from = match old_file(host.alloc, &mut host.volume, old, new) {
         Ok(file) => file,
         Err(fault) => {
             let trouble = Trouble::Old(old, new, fault);
-            return decline_by(host.alloc, &mut host.volume, errors, fault, trouble);
+            return decline_by(
+                host.alloc,
+                &mut host.volume,
+                &mut streams.errors,
+                fault,
+                trouble,
+            );
         }
     };
     let into = match open_new(host.alloc, &mut host.volume, new) {
         Ok(conn) => conn,
         Err(fault) => {
             let trouble = Trouble::New(new, fault);
-            return decline_by(host.alloc, &mut host.volume, errors, fault, trouble);
+            return decline_by(
+                host.alloc,
+                &mut host.volume,
+                &mut streams.errors,
+                fault,
+                trouble,
+            );
         }
     };
     match count_moved(host.alloc, &mut host.volume, from, into).close() {
-        Ok(count) => print(host.alloc, count, output, errors),
+        Ok(count) => print(host.alloc, count, streams),
         Err(fault) => decline_move(
             host.alloc,
             &mut host.volume,
-            errors,
+            &mut streams.errors,
             Paths { old, new },
             &fault,
         ),

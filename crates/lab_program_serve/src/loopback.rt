@@ -4,7 +4,7 @@ ghost use Rattle.std.specs.Prelude.{◌≡◌, IfErr, IfSome};
 ghost use Rattle.lab_program_serve.specs.ServeTask.{IsServing};
 ghost use Rattle.lab_program_serve.specs.Texts.{IsAnnounced};
 ghost use Rattle.lab_program_host.specs.declared.faults.ServerFault.TheVariants.{Read as NoneListened};
-ghost use Rattle.lab_program_host.specs.Sources.{drawing_of};
+ghost use Rattle.lab_program_host.specs.Hosts.{drawing_between, end_between};
 ghost use Rattle.lab_program_serve.specs.Times.{ServesTimes};
 ghost use Rattle.lab_program_serve.specs.Visits.{listened};
 
@@ -14,7 +14,7 @@ use crate::openings::Opener;
 use crate::serving::serve_over;
 use lab_desk::Keeper;
 use lab_forms_streams::WriteFault;
-use lab_program_host::{Chance, Clock, Host, ListenFault, ServerFault, tell};
+use lab_program_host::{Host, ListenFault, Outside, ServerFault, Streams, Writers, tell};
 use std::io::{Error, ErrorKind, Read, Write};
 use std::net::{
     Ipv4Addr, Net, OpenListener, OpenStream, SocketAddr, SocketAddrV4, TcpListener, TcpStream,
@@ -189,22 +189,17 @@ pub fn connect<N: Net>(net: &N, port: u16) -> Result<Client<N::Stream, N::Stream
 }
 
 // Serves so many connections of a listener.
-fn serve_listener<N: Net, H, C: Clock, X: Chance, P, S: Keeper + Drop, O, L, W: Write>(
-    host: &mut Host<'_, N, H, C, X, P>,
+fn serve_listener<M: Outside, S: Keeper + Drop, O: Opener<M::Volume, S> + Drop, W: Write>(
+    host: &mut Host<'_, M>,
     live_desk: &mut LiveDesk<S, O>,
-    listener: L,
+    listener: <M::Net as Net>::Listener,
     count: u32,
     output: &mut W,
 ) -> Result<(), ServerFault>
-where
-    O: Opener<H, S> + Drop,
-    L: OpenListener + Drop,
-    L::Stream: Read + Write + OpenStream,
     ensures printed { IsAnnounced result (W.contents output.old) (W.contents output.new) }
     ensures served { IfSome live_desk.old (λ desk. O.opened desk.keeper →
         ServesTimes S.Keeper O.opened O.closed desk.keeper live_desk.new result count (listened
-        (drawing_of (C.coming host.old.clock) (C.coming host.new.clock)
-        (X.coming host.old.chance) (X.coming host.new.chance)))) }
+        (drawing_between M.Clock.coming M.Chance.coming host.old host.new))) }
 {
     let mut listening = Listening::new(listener, Rest::new(host.net))?;
     serve_over(host, live_desk, &mut listening, count, output)
@@ -216,32 +211,21 @@ where
 ///
 /// # Errors
 /// It stopped, and standard error failed before the whole line was told.
-pub fn serve<N: Net, H, C: Clock, X: Chance, P, S: Keeper + Drop, O, L, W: Write, E: Write>(
-    host: &mut Host<'_, N, H, C, X, P>,
+pub fn serve<M: Outside, S: Keeper + Drop, O: Opener<M::Volume, S> + Drop, W: Writers>(
+    host: &mut Host<'_, M>,
     live_desk: &mut LiveDesk<S, O>,
-    listener: L,
+    listener: <M::Net as Net>::Listener,
     count: u32,
-    output: &mut W,
-    errors: &mut E,
+    streams: &mut Streams<W>,
 ) -> Result<u8, WriteFault>
-where
-    O: Opener<H, S> + Drop,
-    L: OpenListener + Drop,
-    L::Stream: Read + Write + OpenStream,
     ensures { IsServing S.Keeper O.opened O.closed live_desk.old live_desk.new
-        (drawing_of (C.coming host.old.clock) (C.coming host.new.clock)
-        (X.coming host.old.chance) (X.coming host.new.chance)) count (record {
-          before = W.contents output.old;
-          after = W.contents output.new;
-          told_before = E.contents errors.old;
-          told_after = E.contents errors.new;
-          status = result;
-        }) }
+        (drawing_between M.Clock.coming M.Chance.coming host.old host.new) count
+        (end_between W.Output.contents W.Errors.contents streams.old streams.new result) }
 {
-    match serve_listener(host, live_desk, listener, count, output) {
+    match serve_listener(host, live_desk, listener, count, &mut streams.output) {
         Ok(()) => Ok(0),
         Err(fault) => {
-            tell(errors, fault.word())?;
+            tell(&mut streams.errors, fault.word())?;
             Ok(1)
         }
     }

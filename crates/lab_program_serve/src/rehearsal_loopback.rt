@@ -2,13 +2,14 @@
 
 ghost use Rattle.std.specs.Prelude.{ℕ, List, IfSome};
 ghost use Rattle.std.specs.Io.KnownBytes.{Appends};
+ghost use Rattle.lab_program_host.specs.Hosts.{end_between};
 ghost use Rattle.lab_program_serve.specs.RehearseTask.{FoundsBy, IsRehearsal, Prints};
 
 use crate::rehearsals::{found_in_memory, rehearse_over};
 use crate::{Connections, Desk, Keeper, Listening, Rest, connect, listen};
 use lab_forms_streams::WriteFault;
 use lab_forms_texts::{LabCode, Moment};
-use lab_program_host::{Host, RehearsalFault, ServerFault, tell};
+use lab_program_host::{Host, Outside, RehearsalFault, ServerFault, Streams, Writers, tell};
 use std::alloc::Global;
 use std::io::{Read, Write};
 use std::net::Net;
@@ -63,26 +64,20 @@ fn found_and_ask<N: Net, B: Read, W: Write>(
 ///
 /// # Errors
 /// It failed, and standard error failed before the whole line was told.
-pub fn rehearse<N: Net, H, C, X, P, B: Read, W: Write, E: Write>(
-    host: &mut Host<'_, N, H, C, X, P>,
+pub fn rehearse<M: Outside, B: Read, W: Writers>(
+    host: &mut Host<'_, M>,
     lab: &LabCode,
     moment: Moment,
     body: &mut B,
-    output: &mut W,
-    errors: &mut E,
+    streams: &mut Streams<W>,
 ) -> Result<u8, WriteFault>
-    ensures { IsRehearsal (B.remaining body.old) lab.now (record {
-      before = W.contents output.old;
-      after = W.contents output.new;
-      told_before = E.contents errors.old;
-      told_after = E.contents errors.new;
-      status = result;
-    }) }
+    ensures { IsRehearsal (B.remaining body.old) lab.now
+        (end_between W.Output.contents W.Errors.contents streams.old streams.new result) }
 {
-    match found_and_ask(host.net, host.alloc, lab, moment, body, output) {
+    match found_and_ask(host.net, host.alloc, lab, moment, body, &mut streams.output) {
         Ok(()) => Ok(0),
         Err(fault) => {
-            tell(errors, fault.word())?;
+            tell(&mut streams.errors, fault.word())?;
             Ok(1)
         }
     }

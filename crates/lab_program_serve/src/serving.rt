@@ -6,7 +6,7 @@ ghost use Rattle.lab_records_keeper.specs.Worlds.{Passes};
 ghost use Rattle.lab_desk_events.specs.Keeping.{GivenWithin, Stays};
 ghost use Rattle.lab_desk.specs.Serving.{HandlesRequest};
 ghost use Rattle.lab_program_serve.specs.Texts.{IsPrinted, listening_line};
-ghost use Rattle.lab_program_host.specs.Sources.{drawing_of};
+ghost use Rattle.lab_program_host.specs.Hosts.{drawing_between};
 ghost use Rattle.lab_program_serve.specs.Times.{ServesTimes};
 ghost use Rattle.lab_program_serve.specs.Visits.{OnServed, OnUnserved, SendsReply};
 
@@ -16,7 +16,7 @@ use crate::openings::Opener;
 use lab_desk::{Desk, Keeper};
 use lab_forms_streams::write_whole;
 use lab_forms_texts::Tick;
-use lab_program_host::{Chance, Clock, ConnectionFault, Host, ServerFault, draw};
+use lab_program_host::{ConnectionFault, Host, Outside, ServerFault, draw};
 use std::alloc::Global;
 use std::io::{BufReader, Read, Write};
 
@@ -72,23 +72,22 @@ pub fn serve_connection<S: Keeper + Drop, R: Read + Drop, W: Write>(
 /// # Errors
 /// The line couldn't be printed, or there was no memory for it; or the listener, the clock or the
 /// source of random words failed: what was served before stands.
-pub fn serve_over<N, H, C: Clock, X: Chance, P, S: Keeper + Drop, O, L: Connections, W: Write>(
-    host: &mut Host<'_, N, H, C, X, P>,
+pub fn serve_over<M: Outside, S: Keeper + Drop, O, L: Connections, W: Write>(
+    host: &mut Host<'_, M>,
     live_desk: &mut LiveDesk<S, O>,
     connections: &mut L,
     count: u32,
     output: &mut W,
 ) -> Result<(), ServerFault>
 where
-    O: Opener<H, S> + Drop,
+    O: Opener<M::Volume, S> + Drop,
     ensures printed { IsPrinted (listening_line (L.listens_at connections.old)) result
         (W.contents output.old) (W.contents output.new) }
     ensures served { IfSome live_desk.old (λ desk. O.opened desk.keeper →
         ServesTimes S.Keeper O.opened O.closed desk.keeper live_desk.new result count (record {
           coming = L.coming connections.old;
           left = L.coming connections.new;
-          drawing = drawing_of (C.coming host.old.clock) (C.coming host.new.clock)
-              (X.coming host.old.chance) (X.coming host.new.chance);
+          drawing = drawing_between M.Clock.coming M.Chance.coming host.old host.new;
         })) }
 {
     announce(host.alloc, output, connections.port())?;

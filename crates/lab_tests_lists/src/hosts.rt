@@ -1,12 +1,40 @@
 //! What a server is given in memory: a clock that stands, words that are known, and who opens no
 //! keeper anew.
+use crate::streets::Ground;
 use lab_forms_texts::Moment;
-use lab_program_host::{Chance, Clock, DrawFault};
+use lab_program_host::{Chance, Clock, DrawFault, Outside, Writers};
 use lab_program_serve::Opener;
 use lab_records_keeper::KeeperFault;
 use lab_records_memory::Lists;
 use lab_tests_rows::words;
 use std::alloc::Global;
+use std::marker::PhantomData;
+
+/// A memory, in which a street lies. The type alone is used.
+pub(crate) struct InMemory<'a> {
+    of: PhantomData<&'a ()>,
+}
+
+impl<'a> Outside for InMemory<'a> {
+    type Net = Ground<'a>;
+
+    type Volume = ();
+
+    type Clock = Standing;
+
+    type Chance = Counting;
+
+    type Progress = ();
+}
+
+/// Streams whose bytes are kept in memory. The type alone is used.
+pub(crate) struct Buffers;
+
+impl Writers for Buffers {
+    type Output = Vec<u8>;
+
+    type Errors = Vec<u8>;
+}
 
 /// A clock that stands.
 #[derive(Drop)]

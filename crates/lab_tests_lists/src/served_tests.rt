@@ -1,17 +1,16 @@
 //! Two connections served, over a network in memory: the second client reads what came of what the
 //! first one asked.
 use crate::events::{FOUNDING, FOUNDING_FIRST, SERVED};
-use crate::hosts::{Counting, Never, Standing};
+use crate::hosts::{Buffers, Counting, InMemory, Never, Standing};
 use crate::streets::{Client, Ground, Street};
 use lab_desk::{Desk, Keeper, LabCode, Tick};
 use lab_forms_texts::Moment;
-use lab_program_host::{Chance, Clock, Host, WriteFault};
+use lab_program_host::{Host, Outside, Streams, WriteFault, Writers};
 use lab_program_serve::{LiveDesk, Opener, listen, serve};
 use lab_records_memory::Lists;
 use lab_tests_rows::{Exchange, moment, words};
 use std::cell::{Cell, RefCell};
-use std::io::{Read, Write};
-use std::net::{Net, OpenListener, OpenStream};
+use std::net::Net;
 use std::process::Abort;
 
 // A desk with a laboratory that was founded at the first moment.
@@ -42,19 +41,13 @@ fn assert_got(rt: &impl Abort, client: &Client, reply: &[u8]) {
 
 // Serves two connections. It has no clause, so that the test's proof doesn't carry what a server
 // promises.
-fn serve_two<N: Net, C: Clock, X: Chance, S: Keeper + Drop, O, L>(
-    host: &mut Host<'_, N, (), C, X, ()>,
+fn serve_two<M: Outside, S: Keeper + Drop, O: Opener<M::Volume, S> + Drop, W: Writers>(
+    host: &mut Host<'_, M>,
     office: &mut LiveDesk<S, O>,
-    listener: L,
-    output: &mut Vec<u8>,
-    errors: &mut Vec<u8>,
-) -> Result<u8, WriteFault>
-where
-    O: Opener<(), S> + Drop,
-    L: OpenListener + Drop,
-    L::Stream: Read + Write + OpenStream,
-{
-    serve(host, office, listener, 2, output, errors)
+    listener: <M::Net as Net>::Listener,
+    streams: &mut Streams<W>,
+) -> Result<u8, WriteFault> {
+    serve(host, office, listener, 2, streams)
 }
 
 // How two clients were served at port 7000: the status, what is printed, and what is told.
@@ -63,7 +56,7 @@ fn served<R: Abort + AllocGlobal>(
     street: &Street,
 ) -> (Result<u8, WriteFault>, Vec<u8>, Vec<u8>) {
     let ground = Ground { street };
-    let mut host = Host {
+    let mut host: Host<'_, InMemory<'_>> = Host {
         alloc: rt.alloc(),
         net: &ground,
         volume: (),
@@ -77,11 +70,14 @@ fn served<R: Abort + AllocGlobal>(
     };
     let listener = listen(&ground, 7000).ok().expect(rt, "a listener");
     let mut office = LiveDesk::new(rt.alloc(), Never, desk_with_aqua(rt)).expect(rt, "an office");
-    let mut output = Vec::new(rt.alloc());
-    let mut errors = Vec::new(rt.alloc());
-    let status = serve_two(&mut host, &mut office, listener, &mut output, &mut errors);
+    let mut streams: Streams<Buffers> = Streams {
+        output: Vec::new(rt.alloc()),
+        errors: Vec::new(rt.alloc()),
+    };
+    let status = serve_two(&mut host, &mut office, listener, &mut streams);
     drop(host);
     drop(office);
+    let Streams { output, errors } = streams;
     (status, output, errors)
 }
 

@@ -1,4 +1,5 @@
-use Rattle.std.proofs.Common.{Err, List, [], subst}
+use Rattle.std.proofs.Common.{◌≡◌, inl, Err, List, [], subst}
+use Rattle.lab_store_read.specs.Cells.{storage}
 use Rattle.sqlite.specs.Held.{state}
 use Rattle.sqlite_value.specs.Order.{Row}
 use Rattle.lab_store_tables.specs.Ready.{tables_of}
@@ -8,6 +9,7 @@ use Rattle.lab_move.specs.Counting.{AreCounts, counts_text}
 use Rattle.lab_move_tables.proofs.Bare.{shows_of}
 use Rattle.lab_move.proofs.Counts.{counts_read}
 use Rattle.lab_move.proofs.OldVerdicts.{any_ok, none_asked}
+use Rattle.lab_move.proofs.Matching.{counts_differ, unanswered, unmatched}
 use Rattle.lab_move.proofs.counting.has_as_many.Goals as goal
 
 pub returns-in-Ok-clause-reads : goal.returns-in-Ok-clause-reads
@@ -29,3 +31,17 @@ returns-in-Err-clause-reads g c =
 
 pub returns-in-Err-clause-passes : goal.returns-in-Err-clause-passes
 returns-in-Err-clause-passes g c = none_asked _ (state g.T.Store c.args.new.now)
+
+pub returns-in-Ok-clause-unlike : goal.returns-in-Ok-clause-unlike
+returns-in-Ok-clause-unlike g c clean late ours =
+    counts_differ g.T.Store (g.D.Readable.state c.args.old.now) (g.D.Readable.state c.old_rows.new.old) c.args.new.now c.has_so_many.new.new c.in-Ok.rows.items (c.in-Ok.ensures.ok clean) c.has_so_many.result
+    (rw c.deref.ensures.value at (c.has_so_many.ensures.unlike late ours))
+
+pub returns-in-Ok-clause-cause : goal.returns-in-Ok-clause-cause
+returns-in-Ok-clause-cause g c clean late ours =
+    unmatched g.T.Store (g.D.Readable.state c.args.old.now) (g.D.Readable.state c.old_rows.new.old) c.args.new.now c.has_so_many.new.new c.in-Ok.rows.items (c.in-Ok.ensures.ok clean) (λ fault. fault ≡ storage) c.has_so_many.result
+    (rw c.deref.ensures.value at (c.has_so_many.ensures.cause late ours))
+
+pub returns-in-Err-clause-cause : goal.returns-in-Err-clause-cause
+returns-in-Err-clause-cause g c clean late ours told =
+    inl (unanswered (g.D.Readable.state c.args.old.now) (g.D.Readable.state c.old_rows.new.old) c.in-Err.fault (c.in-Err.ensures.err clean) told)

@@ -1,11 +1,13 @@
-use Rattle.std.proofs.Common.{Err, sym, subst}
+use Rattle.std.proofs.Common.{◌≡◌, inl, Err, sym, subst}
 use Rattle.sqlite.specs.Effect.{Database}
 use Rattle.sqlite.specs.Held.{state}
 use Rattle.lab_store_tables.specs.Held.{IsTyped}
 use Rattle.lab_store_tables.specs.Rows.{tables_in}
+use Rattle.lab_store_files.specs.declared.faults.FileFault.TheVariants.{Storage}
 use Rattle.lab_move_tables.proofs.OldReaders.{may_and, may_end}
 use Rattle.lab_move.specs.Counting.{HasAsMany}
 use Rattle.lab_move.proofs.CountedFiles.{finishes_then, fails_then, named_counted}
+use Rattle.lab_move.proofs.Matching.{unnamed_by}
 use Rattle.lab_move.proofs.filling.finish_compared.Goals as goal
 
 pub finish_with-requires : goal.finish_with-requires
@@ -33,3 +35,11 @@ returns-in-Err-clause-reads g c = may_end c.in-Err.ensures.reads (Err _) (λ e. 
 
 pub returns-in-Err-clause-finished : goal.returns-in-Err-clause-finished
 returns-in-Err-clause-finished g c = fails_then c.requires.at_rest c.in-Err.ensures.passes
+
+pub returns-in-Ok-clause-cause : goal.returns-in-Ok-clause-cause
+returns-in-Ok-clause-cause g c clean ours late =
+    unnamed_by g.T.Store (g.D.Readable.state c.args.old.now) (g.D.Readable.state c.compare_counts.new.old) c.args.new.now c.compare_counts.new.new c.finish_with.new.new c.in-Ok.ensures.passes c.finish_with.result
+    (c.finish_with.ensures.cause late)
+
+pub returns-in-Err-clause-cause : goal.returns-in-Err-clause-cause
+returns-in-Err-clause-cause g c clean ours late told = inl (c.in-Err.ensures.cause clean late ours (let same : c.in-Err.fault ≡ Storage = cc in same))

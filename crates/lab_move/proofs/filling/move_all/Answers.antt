@@ -5,7 +5,7 @@ use Rattle.lab_move_tables.proofs.OldReaders.{by_schema, may_end}
 use Rattle.lab_move.proofs.OneLab.{errs_as}
 use Rattle.lab_move.proofs.AllLabs.{counted, finishes_all, all_later, fails_all}
 use Rattle.lab_move.proofs.CountedFiles.{counted_since, filling_of}
-use Rattle.lab_move.proofs.RefusedLabs.{stops_behind}
+use Rattle.lab_move.proofs.RefusedLabs.{ours_filled, stops_behind}
 use Rattle.lab_move.proofs.filling.move_all.Goals as goal
 
 pub returns-in-Ok-clause-reads : goal.returns-in-Ok-clause-reads
@@ -41,6 +41,7 @@ pub returns-in-Ok-clause-cause : goal.returns-in-Ok-clause-cause
 returns-in-Ok-clause-cause g c read begun clean =
     stops_behind g.D.Readable.state g.T.Store c.args.older c.args.codes.now c.args.old.now c.move_each.new.old c.finish_compared.new.old c.args.new.now c.move_each.new.new c.finish_compared.new.new
     c.in-Ok.ensures.reads c.in-Ok.ensures.fills c.finish_compared.ensures.reads.passes c.finish_compared.result
+    (c.finish_compared.ensures.cause read (ours_filled c.args.codes.now c.in-Ok.ensures.fills begun) clean)
 
 pub returns-in-Err-clause-cause : goal.returns-in-Err-clause-cause
 returns-in-Err-clause-cause g c read begun clean told = inl (c.in-Err.ensures.cause read begun clean told)

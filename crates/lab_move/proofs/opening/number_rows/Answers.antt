@@ -1,7 +1,8 @@
 use Rattle.std.proofs.Common.{Err}
 use Rattle.lab_move_tables.proofs.OldReaders.{rows_read, may_and, may_end}
+use Rattle.lab_store_files.specs.Verdicts.{number_query}
 use Rattle.lab_move.proofs.OldVerdicts.{desk_read, of_store_by}
-use Rattle.lab_move.proofs.StoreCauses.{unasked_so}
+use Rattle.lab_move.proofs.StoreCauses.{unanswered_so}
 use Rattle.lab_move.proofs.opening.number_rows.Goals as goal
 
 pub returns-in-Ok-clause-reads : goal.returns-in-Ok-clause-reads
@@ -17,4 +18,4 @@ returns-in-Err-clause-fault g c = of_store_by c.in-Err.fault c.store_fault.resul
 
 pub returns-in-Err-clause-cause : goal.returns-in-Err-clause-cause
 returns-in-Err-clause-cause g c clean =
-    unasked_so (g.D.Readable.state c.args.tables.now) (g.D.Readable.state c.query_all.new.self) c.in-Err.fault c.store_fault.result c.store_fault.ensures (c.in-Err.ensures.err clean)
+    unanswered_so number_query (g.D.Readable.state c.args.tables.now) (g.D.Readable.state c.query_all.new.self) c.in-Err.fault c.store_fault.result c.store_fault.ensures (c.in-Err.ensures.err clean)

@@ -1,7 +1,7 @@
 use Rattle.std.proofs.Common.{Ok, sym, ◌∙◌}
 use Rattle.sqlite.specs.Held.{state}
 use Rattle.lab_store_tables.specs.Ready.{IsMadeBy}
-use Rattle.lab_store_write.proofs.Transactions.{isnt_memory, told_so}
+use Rattle.lab_store_write.proofs.Transactions.{isnt_memory}
 use Rattle.lab_move_write.specs.Namings.{NamesSchema}
 use Rattle.lab_move_write.specs.Unfinished.{Finishes}
 use Rattle.lab_move_write.proofs.Commits.{told_ok, told_err, makes_weaker}
@@ -19,5 +19,4 @@ returns-in-Err-clause-finished g c =
     told_err _ _ (makes_weaker (IsMadeBy NamesSchema old) (Finishes old.now) _ (finishes old.now) c.in-Err.ensures.ends)
 
 pub returns-in-Err-clause-cause : goal.returns-in-Err-clause-cause
-returns-in-Err-clause-cause g c =
-    told_so c.in-Err.error c.read_fault.result (λ told. isnt_memory c.in-Err.error (sym c.read_fault.ensures ∙ told)) c.in-Err.ensures.cause
+returns-in-Err-clause-cause g c clean told = c.in-Err.ensures.cause clean (isnt_memory c.in-Err.error (sym c.read_fault.ensures ∙ told))

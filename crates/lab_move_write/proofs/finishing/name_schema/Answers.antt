@@ -4,8 +4,8 @@ use Rattle.sqlite.specs.State.{State, ExecutesInside}
 use Rattle.lab_store_write.specs.Calls.{Steps}
 use Rattle.lab_store_write.specs.Causes.{FailsBy}
 use Rattle.lab_store_write.proofs.Failing.{ran_badly}
-use Rattle.lab_move_write.specs.Namings.{NamesSchema}
-use Rattle.lab_move_write.proofs.NamingLemmas.{naming_ours, naming_text, schema_named}
+use Rattle.lab_move_write.specs.Namings.{NamesSchema, naming_text}
+use Rattle.lab_move_write.proofs.NamingLemmas.{naming_ours, schema_named}
 use Rattle.lab_move_write.proofs.finishing.name_schema.Goals as goal
 
 if_named : (old new : State) (r : Result ℕ Error) → ExecutesInside 0 naming_text [] old new r → IfOk r (λ _. Steps NamesSchema old new)
@@ -18,7 +18,10 @@ if_refused state old new (Err e) ran = inr (ran_badly state naming_text [] namin
 
 pub returns : goal.returns
 returns g c = record {
-  stays = c.run.ensures.stays;
-  made = λ inside clean. if_named (g.W.Writable.state c.args.tx.now) (g.W.Writable.state c.run.new.tx) c.run.result (c.run.ensures.runs inside clean);
-  failed = λ inside clean typed. if_refused g.W.Writable.state c.args.tx.now c.run.new.tx c.run.result (c.run.ensures.runs inside clean);
+  writes = record {
+    stays = c.run.ensures.stays;
+    made = λ inside clean. if_named (g.W.Writable.state c.args.tx.now) (g.W.Writable.state c.run.new.tx) c.run.result (c.run.ensures.runs inside clean);
+    failed = λ inside clean typed. if_refused g.W.Writable.state c.args.tx.now c.run.new.tx c.run.result (c.run.ensures.runs inside clean);
+  };
+  ran = λ inside clean. c.run.ensures.runs inside clean;
 }

@@ -17,7 +17,7 @@ pub returns-in-Err-clause-done : goal.returns-in-Err-clause-done
 returns-in-Err-clause-done g c = λ asked asks.
     let kind = rw asks.unfaulted at c.in-Err.ensures.fault in
     elim kind [
-      | inl memory ↦ never_done g.H.Disk.Store g.H.Volume.file _ c.args.host.now.volume _ _ _ _ _ _ asked (g.R.Read.remaining c.args.input) (rw memory at c.explain.ensures)
+      | inl memory ↦ never_done g.M.Volume.Disk.Store g.M.Volume.Volume.file _ c.args.host.now.volume _ _ _ _ _ _ asked (g.R.Read.remaining c.args.input) (rw memory at c.explain.ensures)
       | inr other ↦ absurd other
     ]
 

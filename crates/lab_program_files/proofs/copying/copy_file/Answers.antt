@@ -5,7 +5,7 @@ use Rattle.lab_program_files.proofs.copying.copy_file.Goals as goal
 
 pub returns-in_default-clause-untouched : goal.returns-in_default-clause-untouched
 returns-in_default-clause-untouched g c =
-    subst (IsOurs g.H.Disk.Store (g.H.Volume.file c.args.host.now.volume c.args.path.now).holds)
+    subst (IsOurs g.M.Volume.Disk.Store (g.M.Volume.Volume.file c.args.host.now.volume c.args.path.now).holds)
     (sym (c.new.ensures ∙ c.into_connection.ensures.same)) c.in-Ok.ensures.ours
 
 pub returns-clause-copies : goal.returns-clause-copies

@@ -13,7 +13,7 @@ returns-in_default-clause-ends g c = (
     c.in-Ok.store,
     c.in-Ok.store,
     c.in-Ok.ensures.opened,
-    ends_idle (file_keeper g.H.Disk.Store) undrawn c.args.lab.now
+    ends_idle (file_keeper g.M.Volume.Disk.Store) undrawn c.args.lab.now
         (g.B.Read.remaining c.args.body.now) c.in-Ok.store Memory tt,
     record { honest = λ h. h; live = λ h l. l; refusing = λ m. m },
   ),
@@ -23,7 +23,7 @@ returns-in_default-clause-ends g c = (
 pub returns-clause-ends : goal.returns-clause-ends
 returns-clause-ends g c =
     let opened = subst
-    (IsOpened g.H.Disk.Store (g.H.Volume.file c.args.host.now.volume c.args.path.now).holds)
+    (IsOpened g.M.Volume.Disk.Store (g.M.Volume.Volume.file c.args.host.now.volume c.args.path.now).holds)
     (sym c.in-Ok-new.ensures.keeper) c.in-Ok.ensures.opened in (
       (
         c.in-Ok-new.desk.keeper,

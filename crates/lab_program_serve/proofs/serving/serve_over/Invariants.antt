@@ -9,6 +9,6 @@ invariant-loop g l = record {
   bound : l.counter ≤ l.fn.count;
   so_far : CountsFrom g.S.Keeper g.O.Opener.opened g.O.Opener.closed l.fn.live_desk l.live_desk l.counter (sources_of
       (g.L.Connections.coming l.fn.connections) (g.L.Connections.coming l.connections)
-      (g.C.Clock.coming l.fn.host.clock) (g.C.Clock.coming l.host.clock)
-      (g.X.Chance.coming l.fn.host.chance) (g.X.Chance.coming l.host.chance));
+      (g.M.Clock.Clock.coming l.fn.host.clock) (g.M.Clock.Clock.coming l.host.clock)
+      (g.M.Chance.Chance.coming l.fn.host.chance) (g.M.Chance.Chance.coming l.host.chance));
 }
