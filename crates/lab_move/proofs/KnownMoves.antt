@@ -8,7 +8,9 @@ use Rattle.sqlite_schema.specs.declared.schema.Schema.{Schema}
 use Rattle.sqlite_value.specs.Order.{Row}
 use Rattle.sqlite.specs.Effect.{Database}
 use Rattle.sqlite.specs.Held.{Held, state}
-use Rattle.sqlite.specs.State.{State, HasCleanDisk}
+use Rattle.sqlite.specs.State.{State, ExecutesIn, Fails, HasCleanDisk, IsNotRun, IsRolledBack, Shown, Survives}
+use Rattle.sqlite.specs.declared.error.Error.TheVariants.{SqliteFailure}
+use Rattle.sqlite.specs.declared.error.ErrorCode.TheVariants as code
 use Rattle.lab_store_tables.specs.Schema.{lab_schema}
 use Rattle.lab_store_tables.specs.Family.{Name, Desk, empty_tables, id_of, rows, tables_in}
 use Rattle.lab_store_tables.specs.Meaning.{meaning}
@@ -23,10 +25,12 @@ use Rattle.lab_store_files.specs.NewFiles.{IsBlank, no_schema}
 use Rattle.lab_store_files.specs.Schemas.{has_number, is_taken}
 use Rattle.lab_move_tables.specs.declared.older.Older.TheVariants.{Two}
 use Rattle.lab_move_tables.proofs.KnownOldFile.{lifted}
+use Rattle.lab_move_tables.specs.declared.older.Older.{Older}
+use Rattle.lab_move_write.specs.Causes.{IsNamingRefused}
 use Rattle.lab_move_read.specs.Laboratories.{codes_of}
 use Rattle.lab_move.specs.declared.faults.MoveFault.TheVariants.{File, NotSound}
-use Rattle.lab_move.specs.Causes.{CountsDiffer, IsMoveCaused, IsMoveUnfinished, IsUnanswered}
-use Rattle.lab_move.specs.Counting.{cell, counts_row, counts_text}
+use Rattle.lab_move.specs.Causes.{CountsDiffer, IsMoveCaused, IsMoveUnfinished, IsSchemaUnnamed, IsUnanswered, StopsAtEnd, StopsAtLab}
+use Rattle.lab_move.specs.Counting.{AreCounts, cell, counts_row, counts_text}
 use Rattle.lab_move.specs.Moving.{AreCounted, IsFirstUnsound, IsSoundIn, Lasts}
 use Rattle.lab_move.specs.OldFiles.{StandsFor}
 use Rattle.lab_move.specs.Owed.{AnswersOldOwed, MovesAsOwed, StopsAt}
@@ -124,6 +128,13 @@ module _ {S : Type 0} (g : Ghosts S) (held : Held S) (before : State) where
   pub known_alike : (it : CountsDiffer g before before held) → ¬ ◌≡◌ {A = List Row} it.rows (counts_row (tables_of (state g held)) ∷ [])
   known_alike it same = it.differ (λ at within. ap (λ (rows : List Row). cell rows at) same)
 
+  -- where the old one shows two laboratories, and the new one has none, they do
+  pub known_differ : Shown counts_text [] before before (counts_row lost ∷ []) → tables_of (state g held) ≡ empty_tables → CountsDiffer g before before held
+  known_differ shown none = record { rows = counts_row lost ∷ []; shown = shown; differ = λ counts. unlike (subst (AreCounts (counts_row lost ∷ [])) none counts) }
+    where
+      unlike : ¬ AreCounts (counts_row lost ∷ []) empty_tables
+      unlike counts = let wrong = counts 0 (omega arith) in cc
+
   -- an empty new file that stays as it was isn't, where its connection is open and has no limit, its disk had no fault, and no transaction
   -- was undone
   pub known_uncaused : IsBlank (state g held).now → HasCleanDisk (state g held) → IsTrue (state g held).is_open → (state g held).step_limit ≡ None
@@ -139,7 +150,32 @@ module _ {S : Type 0} (g : Ghosts S) (held : Held S) (before : State) where
       uncaused : (s : State) → IsTrue s.is_open → s.step_limit ≡ None → s.faults < 2 ^ 64 - 1 → IsCaused s s → ⊥
       uncaused s opened limit few (inl faulted) = omega (arith, few, faulted)
       uncaused s opened limit few (inr (inl shut)) = let o = opened in let wrong = shut in cc
-      uncaused s opened limit few (inr (inr limited)) = let wrong = rw limit at limited in cc
+      uncaused s opened limit few (inr (inr limited)) = let wrong = rw limit at limited.0 in cc
 
       unlike : no_schema ≡ lab_schema → ⊥
       unlike same = let wrong = ap (λ (one : Schema). one.tables) same in cc
+
+-- a disk that fails under the statement that names the schema is told of
+pub known_unnamed : {S : Type 0} (g : Ghosts S) (asked last new : Held S) → Fails (state g (record asked { in_transaction = true })) (state g last) ⊥ (SqliteFailure code.SystemIoFailure)
+    → IsRolledBack (state g (record asked { in_transaction = true })) (state g last) → Survives (state g (record asked { in_transaction = true })) (state g last) (λ _. ⊥)
+    → Survives (state g last) (state g new) (λ _. ⊥) → IsRolledBack (state g last) (state g new) → IsNamingRefused g asked new
+unfolding IsNotRun ExecutesIn
+known_unnamed g asked last new fails back survives ended undone =
+    record { last = last; error = SqliteFailure code.SystemIoFailure; told = refl; refused = inl (inl (inr fails), inr back); survives = survives; ended = ended; undone = undone }
+
+-- no state between is shut or has another limit, where both files were open before and no fault went unseen
+module _ {D S : Type 0} (seen : D → State) (g : Ghosts S) (older : Older) (codes : List (List ℕ)) (before after : D) (fresh new : Held S) (clean : HasCleanDisk (seen after)) (late : HasCleanDisk (state g new))
+    (opened : IsTrue (seen before).is_open) (too : IsTrue (state g fresh).is_open) where
+  abbrev Between : State → State → Type 0
+  Between old now = IsTrue now.is_open × (now.step_limit ≡ old.step_limit)
+
+  pub known_lab : (it : StopsAtLab seen g older codes before after fresh new) → Between (seen before) (seen it.now) × Between (state g fresh) (state g it.last)
+  known_lab it =
+      (((it.placed.read.same (it.passes.clean clean) opened).0.is_open, it.placed.read.passes.limit), ((it.placed.moved.made (it.clean late) too).0, it.placed.moved.limit))
+
+  pub known_end : (it : StopsAtEnd seen g older codes before after fresh new) → Between (seen before) (seen it.now) × Between (state g fresh) (state g it.last)
+  known_end it =
+      (((it.placed.read.same (it.passes.clean clean) opened).0.is_open, it.placed.read.passes.limit), ((it.placed.moved.made (it.clean late) too).0, it.placed.moved.limit))
+
+  pub known_asked : (last : Held S) (it : IsSchemaUnnamed g last new) → IsTrue (state g last).is_open → Between (state g last) (state g it.asked)
+  known_asked last it here = ((it.reads.same (it.clean late) here).0.is_open, it.reads.passes.limit)

@@ -112,7 +112,7 @@ new_caused old new fault it clean ours told = by old.is_open refl
     by true opened =
         let early : HasCleanDisk old = omega (arith, it.survives.clean, clean) in
         let fails = it.err clean in
-        query_so old new (counts_taken old.now (ours early opened).schema) fails.0 (sym fails.2 ∙ told) counts_read fails.1
+        query_so old new (counts_taken old.now (ours early opened).schema) fails.0 (sym fails.2 ∙ told) it.survives.limit counts_read fails.1
 
 -- where the old one gave none
 pub unanswered : (old new : State) (fault : Fault BadStore) → FailsToAsk counts_text [] old new fault → fault ≡ storage → IsUnanswered counts_text old new
@@ -139,7 +139,8 @@ differing Told (Err e) unlike why = λ told. why unlike
 
 -- ---- the schema wasn't named
 
-pub unnamed_by : {S A E : Type 0} (g : Ghosts S) (before after : State) (last mid new : Held S) → ReadsOld {T = Unit {0}} {E = E} (λ t _. Unit {0}) (state g last) (state g mid) (Ok tt) → (r : Result A MoveFault)
+pub unnamed_by : {S A E : Type 0} (g : Ghosts S) (before after : State) (last mid new : Held S) → ReadsOld {T = Unit {0}} {E = E} (λ t _. Unit {0}) (state g last) (state g mid) (Ok tt)
+    → (HasCleanDisk (state g new) → HasCleanDisk (state g mid)) → (r : Result A MoveFault)
     → IfErr r (λ fault. fault ≡ File Storage → IsCaused (state g mid) (state g new) ⊎ IsNamingRefused g mid new) → IfErr r (λ fault. fault ≡ File Storage → IsMoveUnfinished g before after last new)
-unnamed_by g here there last mid new reads (Ok a) h = tt
-unnamed_by g here there last mid new reads (Err e) h = λ told. inr (record { asked = mid; reads = may_and reads (λ t file it. tt); why = h told })
+unnamed_by g here there last mid new reads clean (Ok a) h = tt
+unnamed_by g here there last mid new reads clean (Err e) h = λ told. inr (record { asked = mid; reads = may_and reads (λ t file it. tt); clean = clean; why = h told })

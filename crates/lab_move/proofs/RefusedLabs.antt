@@ -1,14 +1,15 @@
 -- Why a laboratory wasn't placed, and why the filling of a new file stopped.
 use Rattle.std.proofs.Common.{◌≡◌, ◌⊎◌, inr, List, ◌∷◌, ◌++◌, ℕ, Option, Some, Ok, Err, Result, IfErr, refl, sym, ◌∙◌}
-use Rattle.std.specs.Prelude.{All, IsErrAnd}
+use Rattle.std.specs.Prelude.{All, IsErrAnd, OnErr}
 use Rattle.sqlite_trees.specs.declared.store.Store.{Ghosts}
 use Rattle.sqlite.specs.Effect.{Database}
 use Rattle.sqlite.specs.Held.{Held, state}
-use Rattle.sqlite.specs.State.{State}
+use Rattle.sqlite.specs.State.{State, HasCleanDisk}
 use Rattle.lab_forms_texts.specs.declared.refusals.Fault.{Fault}
 use Rattle.lab_forms_texts.specs.declared.refusals.Fault.TheVariants as read
 use Rattle.lab_records_keeper.specs.declared.faults.BadStore.{BadStore}
 use Rattle.lab_records_kept.specs.declared.labs.Lab.{Lab}
+use Rattle.lab_store_tables.specs.Ready.{WhereShown}
 use Rattle.lab_store_tables.specs.Rows.{Tables}
 use Rattle.lab_store_read.specs.Cells.{storage}
 use Rattle.lab_store_files.specs.declared.faults.FileFault.{FileFault}
@@ -69,10 +70,11 @@ ours_of {done = done} so begun = ours_filled done so.fills begun
 
 module _ {D S : Type 0} (seen : D → State) (g : Ghosts S) (older : Older) (codes : List (List ℕ)) (before now after : D) (fresh last new : Held S) where
   pub stops_at : {A : Type 0} (done rest : List (List ℕ)) (code : List ℕ) → codes ≡ done ++ code ∷ rest → HasMoved (StandsBy older) done (seen before) (seen now) (state g fresh) (state g last) → (fault : MoveFault)
+      → PassesOver (seen now) (seen after) → (HasCleanDisk (state g new) → HasCleanDisk (state g last)) → WhereShown (state g new) ((state g new).now ≡ (state g last).now)
       → (fault ≡ File Storage → IsRefusedLab g older code (seen now) (seen after) last new) → (end : Result A MoveFault) → IsErrAnd end (λ e. e ≡ fault)
       → IfErr end (λ e. e ≡ File Storage → StopsAtLab seen g older codes before after fresh new)
-  stops_at done rest code split so fault why (Ok a) failed = absurd failed
-  stops_at done rest code split so fault why (Err e) failed = λ told. record {
+  stops_at done rest code split so fault passes clean left why (Ok a) failed = absurd failed
+  stops_at done rest code split so fault passes clean left why (Err e) failed = λ told. record {
     done = done;
     code = code;
     rest = rest;
@@ -80,19 +82,25 @@ module _ {D S : Type 0} (seen : D → State) (g : Ghosts S) (older : Older) (cod
     now = now;
     last = last;
     placed = record { read = so.reads; moved = so.fills };
+    passes = passes;
+    clean = clean;
+    left = left;
     why = why (sym failed ∙ told);
   }
 
   pub stops_behind : {A E : Type 0} → ReadsAs (StandsBy older) {T = Unit {0}} {E = E} (λ t _. All (IsSoundIn t) codes) (seen before) (seen now) (Ok tt)
-      → Fills {A = Unit {0}} {E = E} (HasThese (StandsBy older) (seen before) (seen now) codes) (Ok tt) (state g fresh) (state g last) → PassesOver (seen now) (seen after) → (r : Result A MoveFault)
+      → Fills {A = Unit {0}} {E = E} (HasThese (StandsBy older) (seen before) (seen now) codes) (Ok tt) (state g fresh) (state g last) → PassesOver (seen now) (seen after)
+      → (HasCleanDisk (state g new) → HasCleanDisk (state g last)) → (r : Result A MoveFault) → WhereShown (state g new) (OnErr r ((state g new).now ≡ (state g last).now))
       → IfErr r (λ e. e ≡ File Storage → IsMoveUnfinished g (seen now) (seen after) last new)
       → IfErr r (λ e. e ≡ File Storage → StopsAtLab seen g older codes before after fresh new ⊎ StopsAtEnd seen g older codes before after fresh new)
-  stops_behind reads fills passes (Ok a) h = tt
-  stops_behind reads fills passes (Err e) h = λ told. inr (record {
+  stops_behind reads fills passes clean (Ok a) left h = tt
+  stops_behind reads fills passes clean (Err e) left h = λ told. inr (record {
     now = now;
     last = last;
     placed = record { read = may_and reads (λ t file all. all); moved = steps_ok tt fills };
     passes = passes;
+    clean = clean;
+    left = left;
     why = h told;
   })
 

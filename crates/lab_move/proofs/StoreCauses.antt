@@ -66,11 +66,11 @@ module _ {C D S : Type 0} (of : C → D) (seen : D → State) (g : Ghosts S) (ol
   lab_of : (codes : List (List ℕ)) (before after : C) (fresh new : Held S) → StopsAtLab (λ (file : C). seen (of file)) g older codes before after fresh new
       → StopsAtLab seen g older codes (of before) (of after) fresh new
   lab_of codes before after fresh new it =
-      record { done = it.done; code = it.code; rest = it.rest; split = it.split; now = of it.now; last = it.last; placed = it.placed; why = it.why }
+      record { done = it.done; code = it.code; rest = it.rest; split = it.split; now = of it.now; last = it.last; placed = it.placed; passes = it.passes; clean = it.clean; left = it.left; why = it.why }
 
   end_of : (codes : List (List ℕ)) (before after : C) (fresh new : Held S) → StopsAtEnd (λ (file : C). seen (of file)) g older codes before after fresh new
       → StopsAtEnd seen g older codes (of before) (of after) fresh new
-  end_of codes before after fresh new it = record { now = of it.now; last = it.last; placed = it.placed; passes = it.passes; why = it.why }
+  end_of codes before after fresh new it = record { now = of it.now; last = it.last; placed = it.placed; passes = it.passes; clean = it.clean; left = it.left; why = it.why }
 
   filling_of : (before after : C) (fresh new : Held S) → IsFillingRefused (λ (file : C). seen (of file)) g older before after fresh new
       → IsFillingRefused seen g older (of before) (of after) fresh new

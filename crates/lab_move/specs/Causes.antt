@@ -1,10 +1,11 @@
 -- Why a call returns the fault of the store, 63, where a file of an older schema is opened or moved. The
--- old file wasn't asked for the number of its schema, or the tables of the new one weren't made: for a
--- fault of the disk in the call, a connection that was shut before it, a limit of steps, or a statement
--- that was refused. Else the move was under way: the new file is being filled, and is left so; what was
--- read of the old one, and what was placed in the new one, up to the call that was refused, is named.
--- Where all laboratories were placed, the cause is named for which the move wasn't finished: a call was
--- refused, or the two files differ in a number of rows.
+-- old file gave no answer when it was asked for the number of its schema, or the tables of the new one
+-- weren't made: for a fault of the disk in the call, a connection that was shut before it, a limit of
+-- steps, or a statement that was refused. Else the move was under way. Of a new file that was empty it
+-- is said what was placed, and which reading or placing was refused then; where all laboratories were
+-- placed, why the move wasn't finished: a call was refused, or the two files differ in a number of rows.
+-- Where no tables stand for the old file, or the new one wasn't empty, no cause is named once the move is
+-- under way.
 use Rattle.std.specs.Prelude.{◌≡◌, ◌⊎◌, ℕ, List, [], ◌∷◌, ◌++◌, All, Option, Some, None, Ok, false, IsFalse}
 use Rattle.sqlite_trees.specs.declared.store.Store.{Ghosts}
 use Rattle.sqlite_value.specs.Order.{Row}
@@ -12,7 +13,7 @@ use Rattle.sqlite_resolve.specs.declared.compiled.Compiled.{Compiled}
 use Rattle.sqlite.specs.declared.error.Error.{Error}
 use Rattle.sqlite.specs.Clock.{timed}
 use Rattle.sqlite.specs.Held.{Held, state}
-use Rattle.sqlite.specs.State.{State, FailsToShow, IsNoStatement, IsStatement, Shown}
+use Rattle.sqlite.specs.State.{State, FailsToShow, HasCleanDisk, IsNoStatement, IsStatement, Shown}
 use Rattle.lab_forms_texts.specs.declared.refusals.Fault.{Fault}
 use Rattle.lab_records_keeper.specs.declared.faults.BadStore.{BadStore}
 use Rattle.lab_records_kept.specs.declared.labs.Lab.{Lab}
@@ -92,7 +93,7 @@ pub record ArePlaced {S : Type 0} (g : Ghosts S) (older : Older) (done : List (L
   pub moved : Fills {A = Unit {0}} {E = ⊥} (HasThese (StandsBy older) before now done) (Ok tt)
       (state g fresh) (state g last)
 
--- the next one was refused
+-- the next one was refused, and the new file has the rows that it had before that one
 pub record StopsAtLab {D S : Type 0} (seen : D → State) (g : Ghosts S) (older : Older)
     (codes : List (List ℕ)) (before after : D) (fresh new : Held S) : Type 0 where
   pub done : List (List ℕ)
@@ -102,6 +103,9 @@ pub record StopsAtLab {D S : Type 0} (seen : D → State) (g : Ghosts S) (older 
   pub now : D
   pub last : Held S
   pub placed : ArePlaced g older done (seen before) (seen now) fresh last
+  pub passes : PassesOver (seen now) (seen after)
+  pub clean : HasCleanDisk (state g new) → HasCleanDisk (state g last)
+  pub left : WhereShown (state g new) ((state g new).now ≡ (state g last).now)
   pub why : IsRefusedLab g older code (seen now) (seen after) last new
 
 -- ---- the end, by the old file before and after it, and the new one before and after it
@@ -123,6 +127,7 @@ FailsToMatch g before after last new =
 pub record IsSchemaUnnamed {S : Type 0} (g : Ghosts S) (last new : Held S) : Type 0 where
   pub asked : Held S
   pub reads : ReadsOld {T = Unit {0}} {E = ⊥} (λ t _. Unit {0}) (state g last) (state g asked) (Ok tt)
+  pub clean : HasCleanDisk (state g new) → HasCleanDisk (state g asked)
   pub why : IsCaused (state g asked) (state g new) ⊎ IsNamingRefused g asked new
 
 abbrev pub IsMoveUnfinished : {S : Type 0} → Ghosts S → State → State → Held S → Held S → Type 0
@@ -136,17 +141,20 @@ pub record StopsAtEnd {D S : Type 0} (seen : D → State) (g : Ghosts S) (older 
   pub last : Held S
   pub placed : ArePlaced g older codes (seen before) (seen now) fresh last
   pub passes : PassesOver (seen now) (seen after)
+  pub clean : HasCleanDisk (state g new) → HasCleanDisk (state g last)
+  pub left : WhereShown (state g new) ((state g new).now ≡ (state g last).now)
   pub why : IsMoveUnfinished g (seen now) (seen after) last new
 
 -- ---- all that is filled in, by the old file before and after it, and the new one before and after it
 
--- the codes weren't read, which has its cause where they are readable; or they were, and a laboratory
--- was refused, or the end was
+-- the codes weren't read, which has its cause where they are readable, and nothing was placed; or they
+-- were, and a laboratory was refused, or the end was
 abbrev pub IsFillingRefused : {D S : Type 0} → (D → State) → Ghosts S → Older → D → D → Held S
     → Held S → Type 0
 IsFillingRefused {D} seen g older before after fresh new =
-    ((t : Tables) → StandsBy older (seen before).now t → HasCodes (seen before).now t
+    (((t : Tables) → StandsBy older (seen before).now t → HasCodes (seen before).now t
     → IsCaused (seen before) (seen after))
+    × WhereShown (state g new) ((state g new).now ≡ (state g fresh).now))
     ⊎ ((codes : List (List ℕ)) × (now : D)
     × ReadsAs (StandsBy older) {E = Fault BadStore} (λ t made. made ≡ codes_of t)
     (seen before) (seen now) (Ok codes)
@@ -155,7 +163,7 @@ IsFillingRefused {D} seen g older before after fresh new =
 
 -- ---- the move, by the old file before and after it, and the new one before and after it
 
--- the old file is of an older schema, and the tables of the new one were made
+-- the old file is of an older schema, and the call that makes the tables of the new one returned Ok
 pub record IsUnderWay {D S : Type 0} (seen : D → State) (g : Ghosts S) (before after : D)
     (fresh new : Held S) : Type 0 where
   pub older : Older
@@ -164,7 +172,7 @@ pub record IsUnderWay {D S : Type 0} (seen : D → State) (g : Ghosts S) (before
   -- a new file that was empty is being filled, and not as it was
   pub filling : IsBlank (state g fresh).now
       → WhereShown (state g new) (IsBeingFilled (state g new).now)
-  -- by the new one once its tables were made
+  -- the new one after that call
   pub begun : Held S
   pub made : MakesAtOnce (Begins (state g fresh).now) {A = Unit {0}} {E = FileFault} (Ok tt)
       (state g fresh) (state g begun)

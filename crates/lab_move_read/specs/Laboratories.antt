@@ -1,4 +1,4 @@
--- A laboratory of a file of schema 2, by its own row, and what a reading of it answers: the
+-- A laboratory of a file of an older schema, by its own row, and what a reading of it answers: the
 -- laboratory that the rows mean, where they are well kept (ISO/IEC 17025:2017, 7.11.3(d)).
 use Rattle.std.specs.Prelude.{◌≡◌, ℕ, Bool, true, false, ◌&&◌, List, map, find, Option, Some, None, option_map}
 use Rattle.sqlite_keyed.specs.Lists.{sort_by}

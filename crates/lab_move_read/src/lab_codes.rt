@@ -33,7 +33,8 @@ fn codes_listed(alloc: Global, rows: &[Row]) -> Result<Series<LabCode>, ReadFaul
     Ok(Series::from_vec(codes_of_rows(alloc, rows)?))
 }
 
-/// The codes of all laboratories of a file of schema 2, in the order of their bytes. However it ends, the rows are as they were.
+/// The codes of all laboratories of a file of an older schema, in the order of their bytes. However it ends, the rows are as they
+/// were.
 ///
 /// # Errors
 /// The store refused, a row is none that is written, or memory ran out.

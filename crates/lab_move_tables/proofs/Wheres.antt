@@ -33,7 +33,7 @@ use Rattle.lab_move_tables.proofs.OldReaders.{rows_read, none_read, may_end, rea
 
 -- ---- one query that the file takes
 
-module _ {sql : List ℕ} {params : Row} (old new : State) (taken : IsTaken old.now sql params) (e : Error) (told : store_fault e ≡ storage) where
+module _ {sql : List ℕ} {params : Row} (old new : State) (taken : IsTaken old.now sql params) (e : Error) (told : store_fault e ≡ storage) (limit : new.step_limit ≡ old.step_limit) where
   is_statement : ¬ IsNoStatement old sql params e
   is_statement (inl it) = absurd (let wrong = sym taken.is ∙ it.1 in cc)
   is_statement (inr it) =
@@ -68,7 +68,7 @@ module _ {sql : List ℕ} {params : Row} (old new : State) (taken : IsTaken old.
       let none = rw (bare, timeless, append-nil params, command) at h in
       elim none.2 [
         | inl mismatch ↦ absurd (taken.accepted none.0 none.1 e (inl mismatch))
-        | inr other ↦ elim other [ inl over ↦ absurd (taken.accepted none.0 none.1 e (inr (inl over))) | inr limit ↦ inr (inr limit.1) ]
+        | inr other ↦ elim other [ inl over ↦ absurd (taken.accepted none.0 none.1 e (inr (inl over))) | inr few ↦ inr (inr (few.1, subst IsSome (sym limit) few.1)) ]
       ]
 
   pub query_so : IsRead (first sql) → FailsToQuery sql params old new e → IsCaused old new
@@ -88,7 +88,7 @@ rows_where {old = old} {new = new} {sql = sql} {params = params} {r = r} read it
   where
     by : (r : Result (Vec Row Global) (Fault BadStore)) → IsTaken old.now sql params → IfErr r (FailsToAsk sql params old new) → IfErr r (λ fault. fault ≡ storage → IsCaused old new)
     by (Ok rows) is h = tt
-    by (Err fault) is h = λ told. query_so old new is h.0 (sym h.2 ∙ told) read h.1
+    by (Err fault) is h = λ told. query_so old new is h.0 (sym h.2 ∙ told) it.survives.limit read h.1
 
 -- ---- no call
 
@@ -125,7 +125,7 @@ caused_since old mid new counts limit still (inr (inl shut)) = opened old.is_ope
     opened : (b : Bool) → old.is_open ≡ b → IsCaused old new
     opened false was = inr (inl was)
     opened true was = absurd (let is = still was in cc)
-caused_since old mid new counts limit still (inr (inr few)) = inr (inr (subst IsSome limit few))
+caused_since old mid new counts limit still (inr (inr few)) = inr (inr (subst IsSome limit few.0, few.1))
 
 module _ {Stands Readable : Database → Tables → Type 0} {A E : Type 0} {IsTold : E → Type 0} {Was : Tables → A → Type 0} {old mid : State} {a : A} (it : ReadsWhere Stands Readable IsTold Was old mid (Ok a)) where
   -- what is made of an answer, which tells of the store for nothing that is readable

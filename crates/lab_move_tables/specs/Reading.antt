@@ -43,9 +43,9 @@ abbrev pub ReadsBy : Older → {T E : Type 0} → (Tables → T → Type 0) → 
     → Type 0
 ReadsBy older Answer old new result = ReadsAs (StandsBy older) Answer old new result
 
--- ---- why it tells of the store
+-- ---- why it returns the fault of the store
 
--- so does a call that tells of the store for no cause but a fault of the disk in the call, a
+-- a call that reads returns the fault of the store for no cause but a fault of the disk in the call, a
 -- connection that was shut before it, or a limit of steps: where the file takes the questions that the
 -- call asks, and what the call reads of the tables is readable
 pub record ReadsWhere (Stands Readable : Database → Tables → Type 0) {T E : Type 0}

@@ -8,6 +8,7 @@ use Rattle.sqlite.specs.declared.error.Error.{Error}
 use Rattle.sqlite.specs.declared.error.Error.TheVariants.{SqliteFailure, SqlInputError}
 use Rattle.sqlite.specs.declared.error.ErrorCode.TheVariants as code
 use Rattle.sqlite_resolve.specs.declared.error.CompileError.TheVariants as compile
+use Rattle.sqlite.specs.Effect.{Database}
 use Rattle.sqlite.specs.Held.{Held, state}
 use Rattle.sqlite.specs.State.{State, ExecutesInside, HasCleanDisk, IsRolledBack, Survives}
 use Rattle.sqlite.specs.Steps.{FailsToCommit}
@@ -18,6 +19,7 @@ use Rattle.lab_store_write.proofs.Transactions.{commit_fails, committed_so, give
 use Rattle.lab_store_files.specs.declared.faults.FileFault.{FileFault}
 use Rattle.lab_store_files.specs.declared.faults.FileFault.TheVariants.{Storage}
 use Rattle.lab_store_files.specs.Faults as files
+use Rattle.lab_store_files.specs.NewFiles.{IsBlank}
 use Rattle.lab_move_write.specs.Causes.{EndsMaking, FailsMaking, MakingEndsForCause, NamingEndsForCause}
 use Rattle.lab_move_write.specs.Namings.{naming_text}
 
@@ -37,18 +39,19 @@ isnt_memory e fault is told = elim (cases_Bool (files.is_out_of_memory e)) [
 
 -- ---- a transaction
 
-module _ {T U : Type 0} (f : T → U) (state : U → State) where
-  pub making_as : (a b : T) {B : Type 0} (r : Result B Error) → IfErr r (FailsMaking (λ t. state (f t)) a b) → IfErr r (FailsMaking state (f a) (f b))
+module _ {T U : Type 0} (Was : Database → Type 0) (f : T → U) (state : U → State) where
+  pub making_as : (a b : T) {B : Type 0} (r : Result B Error) → IfErr r (FailsMaking Was (λ t. state (f t)) a b) → IfErr r (FailsMaking Was state (f a) (f b))
   making_as a b (Ok x) why = tt
   making_as a b (Err e) (inl memory) = inl memory
-  making_as a b (Err e) (inr it) = inr (record { last = f it.last; led = it.led; sql = it.sql; own = it.own; refused = it.refused })
+  making_as a b (Err e) (inr it) =
+      inr (record { last = f it.last; led = it.led; inside = it.inside; clean = it.clean; survives = it.survives; at = it.at; within = it.within; made = it.made; refused = it.refused })
 
 module _ {S : Type 0} (g : Ghosts S) (old begun last end : Held S) (is : begun ≡ record old { in_transaction = true })
     (one : Survives (state g begun) (state g last) (λ _. ⊥)) where
-  module _ {e : Error} (why : HasCleanDisk (state g last) → FailsMaking (state g) begun last e)
+  module _ {e : Error} (why : HasCleanDisk (state g last) → FailsMaking IsBlank (state g) begun last e)
       (three : Survives (state g last) (state g end) (λ _. ⊥)) (undone : HasCleanDisk (state g end) → IsRolledBack (state g last) (state g end)) where
-    for : HasCleanDisk (state g end) → IsFalse (is_out_of_memory e) → IsCaused (state g old) (state g end) ⊎ FailsWithin g (EndsMaking (state g)) old end
-    for clean told = elim (given_up_within g old begun last end is one (EndsMaking (state g)) {Beside = ⊥} (λ opened inside clean. inr (why clean)) three undone clean told) [
+    for : HasCleanDisk (state g end) → IsFalse (is_out_of_memory e) → IsCaused (state g old) (state g end) ⊎ FailsWithin g (EndsMaking IsBlank (state g)) old end
+    for clean told = elim (given_up_within g old begun last end is one (EndsMaking IsBlank (state g)) {Beside = ⊥} (λ opened inside clean. inr (why clean)) three undone clean told) [
       | inl caused ↦ inl caused
       | inr inside ↦ elim inside [ inl none ↦ absurd none | inr it ↦ inr it ]
     ]
@@ -56,7 +59,7 @@ module _ {S : Type 0} (g : Ghosts S) (old begun last end : Held S) (is : begun �
     pub making_given_up : {B : Type 0} (r : Result B Error) → IsErrAnd r (λ d. d ≡ e) → MakingEndsForCause g (λ e. IsFalse (is_out_of_memory e)) old end r
     making_given_up (Ok x) failed = absurd failed
     making_given_up (Err d) failed = record {
-      limit = limit_kept g old begun last end is one (EndsMaking (state g)) {Beside = ⊥} (λ opened inside clean. inr (why clean)) three undone;
+      limit = limit_kept g old begun last end is one (EndsMaking IsBlank (state g)) {Beside = ⊥} (λ opened inside clean. inr (why clean)) three undone;
       cause = λ clean told. for clean (subst (λ (d : Error). IsFalse (is_out_of_memory d)) failed told);
     }
 
@@ -79,6 +82,8 @@ module _ {S : Type 0} (g : Ghosts S) (old begun last end : Held S) (is : begun �
       error = e;
       told = subst (λ (d : Error). IsFalse (is_out_of_memory d)) failed told;
       refused = subst (λ (h : Held S). ExecutesInside 0 naming_text [] (state g h) (state g last) (Err e)) is (ran (omega (arith, three.clean, clean)));
+      survives = subst (λ (h : Held S). Survives (state g h) (state g last) (λ _. ⊥)) is one;
+      ended = three;
       undone = undone clean;
     })
 

@@ -1,10 +1,9 @@
 -- What each statement makes of a file that is to be filled.
 use Rattle.std.proofs.Common.{◌≡◌, ◌⊎◌, inl, inr, ℕ, zero, suc, ◌+◌, ◌<◌, List, [], ◌∷◌, ◌++◌, map, take, length, get_or, false, None, Ok, Err, Result, IfErr, OnOk, IsTrue, refl, sym, ap, subst, ◌∙◌, append-nil, append_assoc, arith}
 use Rattle.std.specs.Prelude.{IsErrAnd}
-use Rattle.std.specs.List.{AllByRecursion, Contains}
-use Rattle.std.proofs.lemmas.List.{length-map, get_or-map}
+use Rattle.std.specs.List.{AllByRecursion}
+use Rattle.std.proofs.lemmas.List.{length-map, get_or-map, get_or_append_left, take_all}
 use Rattle.std.proofs.lemmas.List.Sums.{fold_more}
-use Rattle.std.proofs.lemmas.List.Elements.{Contains-append_left, Contains-append_right, Contains-get_or}
 use Rattle.std.proofs.lemmas.Result.{IfErr-weaker, on_ok_weaker}
 use Rattle.sqlite_trees.specs.Tree.{Trees}
 use Rattle.sqlite_schema.specs.declared.schema.Schema.{Schema}
@@ -142,17 +141,22 @@ begins was db made blank =
 
 -- ---- the calls
 
--- the statements are the file's own
-table_own : (i : ℕ) (d : Table × List ℕ) → i < length own_tables → Contains making_texts (get_or own_tables i d).1
+-- the statements are the file's own, each at its place
+tables_of_file : length own_tables ≡ 12
+tables_of_file = refl
+
+texts_of_file : length making_texts ≡ 13
+texts_of_file = refl
+
+table_own : (i : ℕ) (d : Table × List ℕ) → i < length own_tables → get_or making_texts i [] ≡ (get_or own_tables i d).1
 table_own i d within =
     let text = λ (one : Table × List ℕ). one.1 in
     let as_many = length-map own_tables text in
     let low : i < length (map text own_tables) = omega (arith, as_many, within) in
-    Contains-append_left (map text own_tables) (sessions_of_person_text ∷ []) (get_or own_tables i d).1
-    (subst (Contains (map text own_tables)) (get_or-map text own_tables i d (text d) within) (Contains-get_or (map text own_tables) i (text d) low))
+    get_or_append_left (map text own_tables) (sessions_of_person_text ∷ []) [] i low ∙ get_or-map text own_tables i d [] within
 
-index_own : Contains making_texts sessions_of_person_text
-index_own = Contains-append_right (map (λ (one : Table × List ℕ). one.1) own_tables) (sessions_of_person_text ∷ []) sessions_of_person_text (Contains-get_or (sessions_of_person_text ∷ []) 0 [] (omega arith))
+index_own : get_or making_texts 12 [] ≡ sessions_of_person_text
+index_own = refl
 
 inside_stays : (sql : List ℕ) (old new : State) (r : Result ℕ Error) → ExecutesInside 0 sql [] old new r → OnOk r (IsTrue new.in_transaction)
 inside_stays sql old new (Ok count) h = h.1.mode
@@ -163,32 +167,53 @@ on_each Q (Ok x) f = f
 on_each Q (Err e) f = tt
 
 -- behind calls that ended well
-making_behind : {T : Type 0} (state : T → State) (a b c : T) (e : Error) → Survives (state a) (state b) (λ _. ⊥) → FailsMaking state b c e → FailsMaking state a c e
-making_behind state a b c e led (inl memory) = inl memory
-making_behind state a b c e led (inr it) =
-    inr (record { last = it.last; led = none_then (state a) (state b) (state it.last) led it.led; sql = it.sql; own = it.own; refused = it.refused })
+making_behind : {T : Type 0} (Was Mid : Database → Type 0) (state : T → State) (a b c : T) (e : Error) → Survives (state a) (state b) (λ _. ⊥) → (Was (state a).now → Mid (state b).now)
+    → FailsMaking Mid state b c e → FailsMaking Was state a c e
+making_behind Was Mid state a b c e led made (inl memory) = inl memory
+making_behind Was Mid state a b c e led made (inr it) = inr (record {
+  last = it.last;
+  led = none_then (state a) (state b) (state it.last) led it.led;
+  inside = it.inside;
+  clean = it.clean;
+  survives = it.survives;
+  at = it.at;
+  within = it.within;
+  made = λ was. it.made (made was);
+  refused = it.refused;
+})
 
 module _ {T : Type 0} {lender : T → ℕ × ℕ} {state : T → State} {old new : T} {r : Result ℕ Error} (sql : List ℕ) (stays : Stays lender state old new)
     (ran : IsTrue (state old).in_transaction → HasCleanDisk (state new) → ExecutesInside 0 sql [] (state old) (state new) r) where
-  made_by : (Was Is : Database → Type 0) → Contains making_texts sql → (ExecutesInside 0 sql [] (state old) (state new) r → Was (state old).now → OnOk r (Is (state new).now))
-      → Makes lender state Was Is old new r
-  made_by Was Is own f = record {
+  made_by : (Was Is : Database → Type 0) (at : ℕ) → at < length making_texts → get_or making_texts at [] ≡ sql
+      → (Was (state old).now → IsEmptyUnder (schema_of (take at own_tables)) (state old).now)
+      → (ExecutesInside 0 sql [] (state old) (state new) r → Was (state old).now → OnOk r (Is (state new).now)) → Makes lender state Was Is old new r
+  made_by Was Is at within own stood f = record {
     stays = stays;
     inside = λ inside clean. inside_stays sql (state old) (state new) r (ran inside clean);
     made = λ inside clean. on_each (Is (state new).now) r (λ was. f (ran inside clean) was);
-    failed = λ inside clean. badly r (ran inside clean);
+    failed = λ inside clean. badly inside clean r (ran inside clean);
   }
     where
-      badly : (r : Result ℕ Error) → ExecutesInside 0 sql [] (state old) (state new) r → IfErr r (FailsMaking state old new)
-      badly (Ok count) did = tt
-      badly (Err e) did = inr (record { last = old; led = unmoved (state old); sql = sql; own = own; refused = did })
+      badly : IsTrue (state old).in_transaction → HasCleanDisk (state new) → (r : Result ℕ Error) → ExecutesInside 0 sql [] (state old) (state new) r → IfErr r (FailsMaking Was state old new)
+      badly inside clean (Ok count) did = tt
+      badly inside clean (Err e) did = inr (record {
+        last = old;
+        led = unmoved (state old);
+        inside = inside;
+        clean = (let it = stays.survives in omega (arith, it.clean, clean));
+        survives = stays.survives;
+        at = at;
+        within = within;
+        made = stood;
+        refused = subst (λ text. ExecutesInside 0 text [] (state old) (state new) (Err e)) (sym own) did;
+      })
 
   -- the table at a place
   pub table_makes : (i : ℕ) (d : Table × List ℕ) → i < length own_tables → sql ≡ (get_or own_tables i d).1
       → Makes lender state (IsEmptyUnder (schema_of (take i own_tables))) (IsEmptyUnder (schema_of (take (i + 1) own_tables))) old new r
   table_makes i d within is =
       made_by (IsEmptyUnder (schema_of (take i own_tables))) (IsEmptyUnder (schema_of (take (i + 1) own_tables)))
-      (subst (Contains making_texts) (sym is) (table_own i d within))
+      i (omega (arith, within, tables_of_file, texts_of_file)) (table_own i d within ∙ sym is) (λ was. was)
       (λ did was. subst (λ s. OnOk r (IsEmptyUnder s (state new).now)) (with_is i d within)
       (table_done (take i own_tables) (get_or own_tables i d) (made_at [] own_tables all_made i d within) (state old) (state new) r
       (subst (λ text. ExecutesInside 0 text [] (state old) (state new) r) is did) was))
@@ -197,7 +222,8 @@ module _ {T : Type 0} {lender : T → ℕ × ℕ} {state : T → State} {old new
   pub index_makes_all : sql ≡ sessions_of_person_text → Makes lender state (IsEmptyUnder (schema_of own_tables)) IsUnfinished old new r
   index_makes_all is =
       made_by (IsEmptyUnder (schema_of own_tables)) IsUnfinished
-      (subst (Contains making_texts) (sym is) index_own)
+      12 (omega (arith, texts_of_file)) (index_own ∙ sym is)
+      (λ was. subst (λ tables. IsEmptyUnder (schema_of tables) (state old).now) (sym (take_all 12 own_tables (omega (arith, tables_of_file)))) was)
       (λ did was. on_ok_weaker r (none_held (state new).now) (index_done (state old) (state new) r (subst (λ text. ExecutesInside 0 text [] (state old) (state new) r) is did) was))
 
 -- no call: an empty file has none of the tables
@@ -208,12 +234,13 @@ none_made_yet a stays = record { stays = stays; inside = λ inside clean. inside
 -- one call and then another
 pub makes_then : {T A B : Type 0} {lender : T → ℕ × ℕ} {state : T → State} {Was Mid Is : Database → Type 0} {a b c : T} {x : A} {s : Result B Error}
     → Makes lender state Was Mid a b (Ok x) → Makes lender state Mid Is b c s → Makes lender state Was Is a c s
-makes_then {state = state} {a = a} {b = b} {c = c} {s = s} p q = record {
+makes_then {state = state} {Was = Was} {Mid = Mid} {a = a} {b = b} {c = c} {s = s} p q = record {
   stays = stays_then p.stays p.inside q.stays;
   inside = λ inside clean. q.inside (p.inside inside (early clean)) clean;
   made = λ inside clean. on_ok_weaker s (λ more was. more (p.made inside (early clean) was)) (q.made (p.inside inside (early clean)) clean);
   failed = λ inside clean.
-      IfErr-weaker s (FailsMaking state b c) (FailsMaking state a c) (λ e why. making_behind state a b c e p.stays.survives why) (q.failed (p.inside inside (early clean)) clean);
+      IfErr-weaker s (FailsMaking Mid state b c) (FailsMaking Was state a c) (λ e why. making_behind Was Mid state a b c e p.stays.survives (p.made inside (early clean)) why)
+      (q.failed (p.inside inside (early clean)) clean);
 }
   where
     early : HasCleanDisk (state c) → HasCleanDisk (state b)
@@ -230,11 +257,11 @@ makes_on p q =
 pub makes_stopped : {T B C : Type 0} {lender : T → ℕ × ℕ} {state : T → State} {Was More Is : Database → Type 0} {a c : T} {e : Error} (r : Result B Error) → IsErrAnd r (λ d. d ≡ e)
     → Makes {A = C} lender state Was More a c (Err e) → Makes lender state Was Is a c r
 makes_stopped (Ok value) told q = absurd told
-makes_stopped {state = state} {a = a} {c = c} (Err d) told q = record {
+makes_stopped {state = state} {Was = Was} {a = a} {c = c} (Err d) told q = record {
   stays = q.stays;
   inside = λ inside clean. tt;
   made = λ inside clean. tt;
-  failed = λ inside clean. subst (FailsMaking state a c) (sym told) (q.failed inside clean);
+  failed = λ inside clean. subst (FailsMaking Was state a c) (sym told) (q.failed inside clean);
 }
 
 pub makes_failed : {T A B C : Type 0} {lender : T → ℕ × ℕ} {state : T → State} {Was Mid More Is : Database → Type 0} {a b c : T} {x : A} {e : Error}

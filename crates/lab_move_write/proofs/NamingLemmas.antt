@@ -23,7 +23,7 @@ use Rattle.lab_store_tables.specs.Ready.{tables_of}
 use Rattle.lab_store_tables.specs.Family.{Desk}
 use Rattle.lab_store_tables.proofs.Tables.{held_if_stored, stored_with, rising_with}
 use Rattle.lab_store_write.specs.Calls.{Steps}
-use Rattle.lab_store_write.specs.Causes.{IsOurs}
+use Rattle.lab_store_write.specs.Causes.{is_writing, IsOurs}
 use Rattle.lab_store_write.proofs.Writes.{cast_int, cast_null, add_next}
 use Rattle.lab_store_write.proofs.Inside.{Wrote}
 use Rattle.lab_store_write.proofs.Ours.{ours}
@@ -43,9 +43,9 @@ naming_is : command_of (understood lab_schema naming_text) ≡ Insert 0 (Values 
 unfolding understood everything
 naming_is = refl
 
-pub naming_ours : IsOurs naming_text []
+pub naming_ours : IsOurs is_writing naming_text []
 unfolding understood everything
-naming_ours = ours _ _ (lit≤ tt, refl, refl, refl) refl
+naming_ours = ours _ _ (lit≤ tt, refl, refl, refl, refl) refl
 
 abbrev naming_tail : Row
 naming_tail = Null ∷ number 3 ∷ []

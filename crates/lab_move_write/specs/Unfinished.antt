@@ -48,4 +48,4 @@ pub record Makes {T A : Type 0} (lender : T → ℕ × ℕ) (state : T → State
       → OnOk result (Was (state old).now → Is (state new).now)
   -- it failed for want of memory, or because one of its statements was refused
   pub failed : IsTrue (state old).in_transaction → HasCleanDisk (state new)
-      → IfErr result (FailsMaking state old new)
+      → IfErr result (FailsMaking Was state old new)

@@ -74,7 +74,7 @@ fn make_inside<S: Alter>(tx: &mut Transaction<'_, S>) -> Result<usize, Error>
     ensures survives { Survives
         (state S.Store tx.old.conn.now) (state S.Store tx.new.conn.now) (λ _. ⊥) }
     ensures failed { HasCleanDisk (state S.Store tx.new.conn.now) →
-        IfErr result (FailsMaking (state S.Store) tx.old.conn.now tx.new.conn.now) }
+        IfErr result (FailsMaking IsBlank (state S.Store) tx.old.conn.now tx.new.conn.now) }
 {
     let mut inside = Inside { tx };
     let made = make_all(&mut inside);

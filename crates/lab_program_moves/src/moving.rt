@@ -149,9 +149,9 @@ fn count_moved<H: Volume>(
     }
 }
 
-/// `labdesk migrate`: opens the old file at a path, of schema 2, and a new file at another, moves
-/// all laboratories, prints how many they were, and tells on standard error why it stopped. Answers
-/// the status: 0 where all were moved and that was printed, and else 1. The old file stays as it is.
+/// `labdesk migrate`: opens the old file at a path, of an older schema, and a new file at another,
+/// moves all laboratories, prints how many they were, and says on standard error why it stopped.
+/// Returns the status: 0 where all were moved and that was printed, and else 1. The old file stays as it is.
 ///
 /// # Errors
 /// It stopped, and standard error failed before the whole line was told.

@@ -1,8 +1,8 @@
 -- A keeper that meets what is said of why a copy was refused: it was opened, its laboratories were
 -- read, and then a fault shut it.
-use Rattle.std.proofs.Common.{ℕ, ◌≤◌, zero, suc, List, None, refl, inr}
+use Rattle.std.proofs.Common.{ℕ, ◌≤◌, zero, suc, List, None, refl, inl, inr, arith}
 use Rattle.lab_records_keeper.specs.declared.keeper.Keeper.{Ghosts}
-use Rattle.lab_records_keeper.specs.Worlds.{Meaning, Passes, SameMeaning, World}
+use Rattle.lab_records_keeper.specs.Worlds.{Meaning, Passes, SameMeaning, Shuts, World}
 use Rattle.lab_records_copy_out.specs.Causes.{RefusesCopy, RefusesOne, RefusesRecords}
 use Rattle.lab_records_copy_out.specs.Resting.{IsOnlyRead}
 
@@ -48,11 +48,15 @@ read start = record {
   quiet = λ honest reached live held left. left;
   safe = λ honest reached live safe. safe;
   reached = λ honest reached. reached;
+  shuts = λ honest reached. record { counts = omega arith; cause = λ live. inl live };
   passes = record { honest = λ one. one; live = λ honest one. one; refusing = λ one. one };
 }
 
 passes : (start : Meaning) → Passes (world_at start 0) (world_at start 1)
 passes start = record { honest = λ _. tt; live = λ _ _. tt; refusing = λ _. tt }
+
+shuts : (start : Meaning) → Shuts (world_at start 0) (world_at start 1)
+shuts start = record { counts = omega arith; cause = λ live. inr (omega arith) }
 
 pub known_one : (start : Meaning) (code : List ℕ) (from number last : ℕ) →
     from ≤ number → number ≤ last → RefusesOne (keeper start) 0 1 code from last
@@ -63,6 +67,7 @@ known_one start code from number last first within = record {
   mid = 0;
   read = read start;
   passes = passes start;
+  shuts = λ honest reached. shuts start;
   refused = (tt, λ live. live);
 }
 
@@ -78,5 +83,6 @@ known_copy start code from number last to first within most = inr (record {
   last = last;
   within = most;
   passes = passes start;
+  shuts = λ honest reached. shuts start;
   refused = known_one start code from number last first within;
 })

@@ -1,7 +1,10 @@
 -- A keeper that is read twice, or not at all, is as it was but for what was read.
-use Rattle.std.proofs.Common.{refl, ◌∙◌}
-use Rattle.lab_records_keeper.specs.Worlds.{World, Given}
+use Rattle.std.proofs.Common.{◌⊎◌, inl, inr, ℕ, ◌≤◌, refl, ◌∙◌, arith}
+use Rattle.lab_records_keeper.specs.Worlds.{World, Given, HasFaulted}
 use Rattle.lab_records_copy_out.specs.Resting.{IsOnlyRead}
+
+since : (first mid last : ℕ) → first ≤ mid → HasFaulted mid last → HasFaulted first last
+since first mid last later faulted = omega (arith, later, faulted)
 
 pub read_none : {S : Type 0} (world : S → World) (rests : S → S → Type 0) (it : S) →
     rests it it → IsOnlyRead world rests it it
@@ -11,6 +14,7 @@ read_none world rests it still = record {
   quiet = λ honest reached live held left. left;
   safe = λ honest reached live safe. safe;
   reached = λ honest reached. reached;
+  shuts = λ honest reached. record { counts = omega arith; cause = λ live. inl live };
   passes = record { honest = λ is. is; live = λ honest is. is; refusing = λ is. is };
 }
 
@@ -41,6 +45,17 @@ read_on world rests first next last on alive one other = record {
   reached = λ honest reached.
       let earlier = other.passes.honest honest in
       other.reached honest (one.reached earlier reached);
+  shuts = λ honest reached.
+      let earlier = other.passes.honest honest in
+      let early = one.shuts earlier reached in
+      let late = other.shuts honest (one.reached earlier reached) in
+      record {
+        counts = omega (arith, early.counts, late.counts);
+        cause = λ live. elim (late.cause (alive earlier reached live)) [
+          | inl on ↦ inl on
+          | inr faulted ↦ inr (since (world first).faults (world next).faults (world last).faults early.counts faulted)
+        ];
+      };
   passes = record {
     honest = λ honest. one.passes.honest (other.passes.honest honest);
     live = λ honest live.

@@ -4,7 +4,7 @@ use Rattle.std.specs.Prelude.{◌≡◌, ◌≤◌, ◌⊎◌, ℕ, List, None, 
 use Rattle.lab_forms_texts.specs.Ordinals.{ordinal_of}
 use Rattle.lab_records_kept.specs.declared.needs.RecordWanted.TheVariants.{Numbered}
 use Rattle.lab_records_keeper.specs.declared.keeper.Keeper.{Ghosts}
-use Rattle.lab_records_keeper.specs.Worlds.{Given, Passes}
+use Rattle.lab_records_keeper.specs.Worlds.{Given, Passes, Shuts}
 use Rattle.lab_records_copy_out.specs.Resting.{IsOnlyRead}
 use Rattle.lab_records_copy_out.specs.Walks.{record_need}
 
@@ -13,7 +13,7 @@ abbrev pub Refusing : Type 0 → Type 1
 Refusing S = S → S → List ℕ → ℕ → ℕ → Type 0
 
 module _ {S : Type 0} (keeper : Ghosts S) where
-  -- the keeper refused to load one of the records, and had been read alone before
+  -- the keeper refused to load one of the records, and had only been read before
   pub record RefusesOne (old new : S) (code : List ℕ) (from last : ℕ) : Type 0 where
     pub number : ℕ
     pub first : from ≤ number
@@ -22,10 +22,12 @@ module _ {S : Type 0} (keeper : Ghosts S) where
     pub read : IsOnlyRead keeper.world keeper.rests old mid
     -- an honest end makes the state between honest
     pub passes : Passes (keeper.world mid) (keeper.world new)
+    pub shuts : Given (keeper.world mid) (keeper.world new)
+        (Shuts (keeper.world mid) (keeper.world new))
     pub refused : keeper.refuses_load mid new code
         (record_need (option_map (λ (one : ℕ). Numbered one) (ordinal_of number)))
 
-  -- the head of the laboratory was loaded, and then its records were refused
+  -- the records of the laboratory were refused, and the keeper had only been read before
   pub record RefusesRecords (records : Refusing S) (old new : S) (code : List ℕ) (from to : ℕ)
       : Type 0 where
     pub mid : S
@@ -35,6 +37,8 @@ module _ {S : Type 0} (keeper : Ghosts S) where
     pub last : ℕ
     pub within : last ≤ to
     pub passes : Passes (keeper.world mid) (keeper.world new)
+    pub shuts : Given (keeper.world mid) (keeper.world new)
+        (Shuts (keeper.world mid) (keeper.world new))
     pub refused : records mid new named from last
 
   -- a copy was refused

@@ -9,7 +9,7 @@ use Rattle.lab_store_tables.specs.Rows.{Tables}
 use Rattle.lab_store_tables.specs.Ready.{PassesBy, tables_of}
 use Rattle.lab_store_read.specs.Causes.{IsCaused}
 use Rattle.lab_store_write.specs.Transactions.{EndsForCause}
-use Rattle.lab_store_write.proofs.Transactions.{since}
+use Rattle.lab_store_write.proofs.Transactions.{since, as_is_then}
 use Rattle.lab_store.specs.Causes.{CommitHasItsCause, FailsInside}
 
 -- ---- a cause of a connection
@@ -18,7 +18,7 @@ use Rattle.lab_store.specs.Causes.{CommitHasItsCause, FailsInside}
 caused_since : (old mid new : State) → old.faults ≤ mid.faults → mid.step_limit ≡ old.step_limit → IsTrue mid.is_open → IsCaused mid new → IsCaused old new
 caused_since old mid new counts limit opened (inl fault) = inl (since old.faults mid.faults new.faults counts fault)
 caused_since old mid new counts limit opened (inr (inl shut)) = absurd (let o = opened in let s = shut in cc)
-caused_since old mid new counts limit opened (inr (inr few)) = inr (inr (subst IsSome limit few))
+caused_since old mid new counts limit opened (inr (inr few)) = inr (inr (subst IsSome limit few.0, few.1))
 
 -- ---- a transaction over a file that is ready
 
@@ -40,13 +40,13 @@ module _ {S : Type 0} (g : Ghosts S) where
       (clean_mid : HasCleanDisk (state g new) → HasCleanDisk (state g mid)) (met : First (tables_of (state g mid)) → Then (tables_of (state g old))) where
     inside_since : HasCleanDisk (state g mid) → FailsInside g mid new → FailsInside g old new
     inside_since clean it = record {
-      begun = it.begun;
+      from = it.from;
+      as_is = as_is_then (state g old) (state g mid) (state g it.from) (record { same = same clean; counts = passes.shuts.counts; limit = limit }) it.as_is;
       last = it.last;
-      inside = it.inside;
-      rows = it.rows ∙ (same clean).0.now_is;
       error = it.error;
       told = it.told;
       ends = it.ends;
+      ended = it.ended;
       undone = it.undone;
     }
 

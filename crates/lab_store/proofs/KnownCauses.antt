@@ -10,7 +10,8 @@ use Rattle.lab_records_kept.specs.declared.changes.Change.TheVariants.{Last, Str
 use Rattle.lab_store_tables.specs.Rows.{Tables}
 use Rattle.lab_store_tables.specs.Ready.{IsReady, tables_of}
 use Rattle.lab_store_tables.proofs.KnownFile.{file}
-use Rattle.lab_store_write.specs.Causes.{IsNamedInVain}
+use Rattle.lab_store_write.specs.Causes.{RunsInside, IsNamedInVain}
+use Rattle.lab_store_write.proofs.Transactions.{unchanged}
 use Rattle.lab_store_write_changes.specs.Causes.{IsTooMuch}
 use Rattle.lab_store.specs.Causes.{CommitHasItsCause, FailsInside, RefusesChanges}
 
@@ -21,16 +22,16 @@ module _ {S : Type 0} (g : Ghosts S) where
   known_shut IsTold Readable Refused held fault shut = record { limit = refl; cause = λ ready clean readable told. inl (inr (inl shut)) }
 
   -- so is a statement that sets no row where one is named, behind others of a transaction that is then undone
-  pub known_vain : (old last end new : Held S) → Survives (state g (record old { in_transaction = true })) (state g last) (λ _. ⊥)
-      → IsNamedInVain (state g last) (state g end) QueryReturnedNoRows → IsRolledBack (state g end) (state g new) → FailsInside g old new
-  known_vain old last end new led vain undone = record {
-    begun = record old { in_transaction = true };
+  pub known_vain : (old last end new : Held S) → IsTrue (state g old).is_open → Survives (state g (record old { in_transaction = true })) (state g last) (λ _. ⊥) → RunsInside (state g last) (state g end)
+      → IsNamedInVain (state g last) (state g end) QueryReturnedNoRows → Survives (state g end) (state g new) (λ _. ⊥) → IsRolledBack (state g end) (state g new) → FailsInside g old new
+  known_vain old last end new opened led goes vain ended undone = record {
+    from = old;
+    as_is = unchanged (state g old) opened;
     last = end;
-    inside = refl;
-    rows = refl;
     error = QueryReturnedNoRows;
     told = refl;
-    ends = record { last = last; led = led; why = inr vain };
+    ends = record { last = last; led = led; ran = goes; why = inr vain };
+    ended = ended;
     undone = undone;
   }
 
@@ -42,7 +43,7 @@ module _ {S : Type 0} (g : Ghosts S) where
   known_uncaused IsTold Readable Refused held fault ready clean readable opened limit few marked taken told it = elim (it.cause ready clean readable told) [
     | inl caused ↦ elim caused [
       | inl faulted ↦ omega (arith, few, faulted)
-      | inr other ↦ elim other [ inl shut ↦ (let o = opened in let s = shut in cc) | inr limited ↦ (let wrong = rw limit at limited in cc) ]
+      | inr other ↦ elim other [ inl shut ↦ (let o = opened in let s = shut in cc) | inr limited ↦ (let wrong = rw limit at limited.0 in cc) ]
     ]
     | inr other ↦ elim other [ inl refused ↦ taken refused | inr inside ↦ marked inside.undone.unmarked ]
   ]

@@ -38,8 +38,8 @@ pub record CommitHasItsCause {S T E : Type 0} (g : Ghosts S) (IsTold : E → Typ
       → IfErr result (λ fault. IsTold fault → IsCaused (state g old) (state g new)
       ⊎ (Refused (tables_of (state g old)) ⊎ FailsInside g old new))
 
--- so does one inside whose transaction nothing is read, of which an error is told that isn't want
--- of memory
+-- a call that reads nothing before its transaction: it returns an error, which isn't want of memory,
+-- for no other cause
 abbrev pub TransactionHasItsCause : {S T : Type 0} → Ghosts S → Type 0 → Held S → Held S
     → Result T Error → Type 0
 TransactionHasItsCause g Beside old new result =

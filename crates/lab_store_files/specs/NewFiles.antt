@@ -1,4 +1,4 @@
--- A new file: the twelve tables without rows, but the one that names the schema (21 CFR 11.10(c),
+-- A new file: the twelve tables, without rows but for the one that names the schema (21 CFR 11.10(c),
 -- "protection of records to enable their accurate and ready retrieval throughout the records
 -- retention period": a file that names its schema can be read by a later program).
 use Rattle.std.specs.Prelude.{◌≡◌, pos, ℕ, List, [], ◌∷◌, fold, take}

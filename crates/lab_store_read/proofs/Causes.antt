@@ -54,7 +54,7 @@ fits_by sql query params one typed alone plain = record { one = one; taken = by 
     by db e ours (inr (inr limit)) = absurd (let wrong = limit.1 in cc)
 
 module _ {sql : List ℕ} {query : Query} {names : List (List ℕ)} {params : Row} (means : Means sql query names) (fits : Fits sql query params) (old new : State) where
-  module _ (ours : old.now.schema ≡ lab_schema) (e : Error) (told : store_fault e ≡ storage) where
+  module _ (ours : old.now.schema ≡ lab_schema) (e : Error) (told : store_fault e ≡ storage) (limit : new.step_limit ≡ old.step_limit) where
     understood_as : (r : Checked Compiled) → understood old.now.schema sql ≡ r → understood lab_schema sql ≡ r
     understood_as r h = sym (ap (λ s. understood s sql) ours) ∙ h
 
@@ -83,7 +83,7 @@ module _ {sql : List ℕ} {query : Query} {names : List (List ℕ)} {params : Ro
     refused_so : RefusesQuery old.step_limit old.now (record { lets = []; body = query }) params e → IsCaused old new
     refused_so (inl mismatch) = absurd (fits.taken old.now e ours (inl mismatch))
     refused_so (inr (inl over)) = absurd (fits.taken old.now e ours (inr (inl over)))
-    refused_so (inr (inr limit)) = inr (inr limit.1)
+    refused_so (inr (inr few)) = inr (inr (few.1, subst IsSome (sym limit) few.1))
 
     shows_so : (c : Compiled) (it : IsStatement old sql params c) → FailsToShow old new sql c (timed params c.formats it.now) e c.returning → IsCaused old new
     shows_so c it h =
@@ -110,7 +110,7 @@ module _ {sql : List ℕ} {query : Query} {names : List (List ℕ)} {params : Ro
         where
           opened : (b : Bool) → old.is_open ≡ b → fault ≡ storage → IsCaused old new
           opened false shut told = inr (inl shut)
-          opened true is told = query_so (ready.kept (omega (arith, it.survives.clean)) is).typed.schema h.0 (sym h.2 ∙ told) h.1
+          opened true is told = query_so (ready.kept (omega (arith, it.survives.clean)) is).typed.schema h.0 (sym h.2 ∙ told) it.survives.limit h.1
 
 -- ---- what follows on an answer
 
@@ -191,7 +191,7 @@ caused_since old mid new shuts limit still (inr (inl shut)) = opened old.is_open
     opened : (b : Bool) → old.is_open ≡ b → IsCaused old new
     opened false was = inr (inl was)
     opened true was = absurd (let is = still was in cc)
-caused_since old mid new shuts limit still (inr (inr few)) = inr (inr (subst IsSome limit few))
+caused_since old mid new shuts limit still (inr (inr few)) = inr (inr (subst IsSome limit few.0, few.1))
 
 module _ {A E : Type 0} {Was : Tables → A → Type 0} {old mid : State} {a : A} (it : MayRead {E = E} Was old mid (Ok a)) (limit : mid.step_limit ≡ old.step_limit) where
   -- the cause of another call after it

@@ -1,5 +1,5 @@
--- Why a call that reads tells of the store: the disk had a fault in it, the connection was shut
--- before it, or its steps have a limit. (A row that isn't readable is another cause, which each
+-- Why a call that reads returns the fault of the store: the disk had a fault in the call, the connection
+-- was shut before it, or the steps of the connection had a limit before the call and have one after it. (A row that isn't readable is another cause, which each
 -- reader names.)
 use Rattle.std.specs.Prelude.{◌≡◌, ◌⊎◌, List, Result, slice_get, IfErr, IfSome, IsFalse, IsSome}
 use Rattle.sqlite_value.specs.Order.{Row}
@@ -13,7 +13,8 @@ use Rattle.lab_store_read.specs.Cells.{storage}
 
 abbrev pub IsCaused : State → State → Type 0
 IsCaused old new =
-    HasFaulted old.faults new.faults ⊎ (IsFalse old.is_open ⊎ IsSome old.step_limit)
+    HasFaulted old.faults new.faults
+    ⊎ (IsFalse old.is_open ⊎ (IsSome old.step_limit × IsSome new.step_limit))
 
 -- a call tells of the store for no other cause, where what it reads of the tables is readable
 pub record HasItsCause {T : Type 0} (Readable : Tables → Type 0) (old new : State)

@@ -92,7 +92,8 @@ caused_since : (old mid new : State) → Shuts old mid → mid.step_limit ≡ ol
 caused_since old mid new shuts limit opened (inl fault) =
     inl (since old.faults mid.faults new.faults shuts.counts fault)
 caused_since old mid new shuts limit opened (inr (inl shut)) = absurd (let is = opened in cc)
-caused_since old mid new shuts limit opened (inr (inr few)) = inr (inr (subst IsSome limit few))
+caused_since old mid new shuts limit opened (inr (inr few)) =
+    inr (inr (subst IsSome limit few.0, few.1))
 
 all_caused : {T P : Type 0} (result : Result T CopyOutFault) → P →
     IfErr result (λ fault. fault ≡ Storage → P)

@@ -31,7 +31,7 @@ use Rattle.lab_store_read.proofs.Texts.{Means, is_param}
 use Rattle.lab_store_read.proofs.Sorted.{and_true}
 use Rattle.lab_store_read.proofs.Lists.{int_alike}
 use Rattle.lab_store_write.specs.Calls.{Steps, Finds, MadeFrom}
-use Rattle.lab_store_write.specs.Causes.{shows_id, IsOurs}
+use Rattle.lab_store_write.specs.Causes.{is_reading, shows_id, IsOurs}
 use Rattle.lab_store_write.specs.Ids.{id_read}
 use Rattle.lab_store_write.specs.Closings.{is_meant, closed_row, ClosesRow, close_of, is_open_of, opened_shown, ClosesOf}
 use Rattle.lab_store_write.proofs.Inside.{steps_then}
@@ -70,9 +70,9 @@ pub all_means : Means all_text (by_key_query 5 (is_param 3 0 ∷ open_test ∷ [
 unfolding understood everything
 all_means = record { read = (_, refl); command = refl; unlisted = refl; plain = (refl, refl) }
 
-pub all_ours : (person : ℤ) → IsOurs all_text (Int person ∷ [])
+pub all_ours : (person : ℤ) → IsOurs is_reading all_text (Int person ∷ [])
 unfolding understood everything
-all_ours person = ours _ _ (lit≤ tt, refl, refl, refl) all_means.unlisted
+all_ours person = ours _ _ (lit≤ tt, refl, refl, refl, refl) all_means.unlisted
 
 pub all_read : (old new : State) (person : ℤ) (rows : List Row) → IsTyped old.now → Shown all_text (Int person ∷ []) old new rows → rows ≡ opened_shown person All (tables_in old.now.trees)
 all_read old new person rows typed h =
@@ -90,9 +90,9 @@ pub others_means : Means others_text (by_key_query 5 others_tests (col 1 0 ∷ [
 unfolding understood everything
 others_means = record { read = (_, refl); command = refl; unlisted = refl; plain = (refl, refl) }
 
-pub others_ours : (person : ℤ) (kept : ℕ) → IsOurs others_text (Int person ∷ number kept ∷ [])
+pub others_ours : (person : ℤ) (kept : ℕ) → IsOurs is_reading others_text (Int person ∷ number kept ∷ [])
 unfolding understood everything
-others_ours person kept = ours _ _ (lit≤ tt, refl, refl, refl) others_means.unlisted
+others_ours person kept = ours _ _ (lit≤ tt, refl, refl, refl, refl) others_means.unlisted
 
 pub others_read : (old new : State) (person : ℤ) (kept : ℕ) (rows : List Row) → IsTyped old.now → Shown others_text (Int person ∷ number kept ∷ []) old new rows → rows ≡ opened_shown person (Others kept) (tables_in old.now.trees)
 others_read old new person kept rows typed h =

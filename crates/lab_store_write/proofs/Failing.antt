@@ -1,5 +1,5 @@
 -- Why a call fails: by its last statement, behind the calls before it.
-use Rattle.std.proofs.Common.{◌≡◌, ◌⊎◌, inl, inr, ℕ, ℤ, ◌<◌, Bool, map, true, false, List, [], ◌∷◌, length, Ok, Err, Result, IfErr, refl, sym, ap, subst, ◌∙◌, arith}
+use Rattle.std.proofs.Common.{◌≡◌, ◌⊎◌, inl, inr, ℕ, ℤ, ◌<◌, Bool, map, true, false, List, [], ◌∷◌, length, Ok, Err, Result, IfErr, refl, sym, ap, subst, ◌∙◌, IsTrue, arith}
 use Rattle.std.specs.Prelude.{IsErrAnd}
 use Rattle.sqlite_value.specs.declared.value.Value.TheVariants.{Null, Int, Real, Text, Blob}
 use Rattle.sqlite_value.specs.Order.{Row, column}
@@ -7,9 +7,10 @@ use Rattle.sqlite.specs.declared.error.Error.{Error}
 use Rattle.sqlite.specs.declared.error.Error.TheVariants.{SqliteFailure}
 use Rattle.sqlite.specs.declared.error.ErrorCode.TheVariants as code
 use Rattle.sqlite.specs.Values.{IsInt}
-use Rattle.sqlite.specs.State.{State, Survives, ExecutesInside, FailsToQuery, IsTooLate}
+use Rattle.sqlite.specs.State.{State, HasCleanDisk, Survives, ExecutesInside, FailsToQuery, IsTooLate}
+use Rattle.lab_store_tables.specs.Held.{IsTyped}
 use Rattle.lab_store_read.specs.Faults.{is_out_of_memory}
-use Rattle.lab_store_write.specs.Causes.{IsVain, IsUnread, IsUnnamed, IsOurs, IsRefused, IsNamedInVain, FailsBy}
+use Rattle.lab_store_write.specs.Causes.{is_reading, is_writing, IsVain, IsUnread, IsUnnamed, IsOurs, IsRefused, IsNamedInVain, RunsInside, FailsBy}
 use Rattle.lab_store_write.proofs.Inside.{none_then}
 
 pub unmoved : (s : State) → Survives s s (λ _. ⊥)
@@ -27,22 +28,27 @@ pub passed : {B E : Type 0} (P : E → Type 0) {e : E} → P e → (r : Result B
 passed P it (Ok x) failed = absurd failed
 passed P it (Err d) failed = subst P (sym failed) it
 
+-- a statement after which no fault went unseen
+pub still_on : (old new : State) → Survives old new (λ _. ⊥) → IsTrue old.in_transaction → HasCleanDisk new → IsTyped old.now → RunsInside old new
+still_on old new survives inside clean typed = record { inside = inside; clean = omega (arith, survives.clean, clean); typed = typed; survives = survives }
+
 module _ {T : Type 0} (state : T → State) where
   -- by the one statement of the call
-  pub fails_here : (a b : T) (e : Error) → IsRefused (state a) (state b) e ⊎ IsNamedInVain (state a) (state b) e → FailsBy state a b e
-  fails_here a b e why = inr (record { last = a; led = unmoved (state a); why = why })
+  pub fails_here : (a b : T) (e : Error) → RunsInside (state a) (state b) → IsRefused (state a) (state b) e ⊎ IsNamedInVain (state a) (state b) e → FailsBy state a b e
+  fails_here a b e goes why = inr (record { last = a; led = unmoved (state a); ran = goes; why = why })
 
-  pub ran_badly : (sql : List ℕ) (params : Row) → IsOurs sql params → (a b : T) (e : Error) → ExecutesInside 0 sql params (state a) (state b) (Err e) → FailsBy state a b e
-  ran_badly sql params ours a b e ran = fails_here a b e (inl (record { sql = sql; params = params; ours = ours; refused = inl ran }))
+  pub ran_badly : (sql : List ℕ) (params : Row) → IsOurs is_writing sql params → (a b : T) (e : Error) → RunsInside (state a) (state b) → ExecutesInside 0 sql params (state a) (state b) (Err e) → FailsBy state a b e
+  ran_badly sql params ours a b e goes ran = fails_here a b e goes (inl (record { sql = sql; params = params; refused = inl (ours, ran) }))
 
-  pub asked_badly : (sql : List ℕ) (params : Row) → IsOurs sql params → (a b : T) (e : Error) → FailsToQuery sql params (state a) (state b) e ⊎ IsTooLate sql params (state a) (state b) e
-      → FailsBy state a b e
-  asked_badly sql params ours a b e asked = fails_here a b e (inl (record { sql = sql; params = params; ours = ours; refused = inr asked }))
+  pub asked_badly : (sql : List ℕ) (params : Row) → IsOurs is_reading sql params → (a b : T) (e : Error) → RunsInside (state a) (state b)
+      → FailsToQuery sql params (state a) (state b) e ⊎ IsTooLate sql params (state a) (state b) e → FailsBy state a b e
+  asked_badly sql params ours a b e goes (inl asked) = fails_here a b e goes (inl (record { sql = sql; params = params; refused = inr (ours, asked) }))
+  asked_badly sql params ours a b e goes (inr late) = absurd (let on = goes.inside in let off = late.3 in cc)
 
   -- behind other calls
   pub fails_behind : (a b c : T) (e : Error) → Survives (state a) (state b) (λ _. ⊥) → FailsBy state b c e → FailsBy state a c e
   fails_behind a b c e led (inl memory) = inl memory
-  fails_behind a b c e led (inr it) = inr (record { last = it.last; led = none_then (state a) (state b) (state it.last) led it.led; why = it.why })
+  fails_behind a b c e led (inr it) = inr (record { last = it.last; led = none_then (state a) (state b) (state it.last) led it.led; ran = it.ran; why = it.why })
 
 -- ---- an id that isn't read
 

@@ -19,7 +19,7 @@ use Rattle.lab_store_tables.specs.Family.{Name, Desk, RowOf, kept, id_of, rows, 
 use Rattle.lab_store_tables.proofs.FamilyWords.{table_in, values_of, stored_row, put}
 use Rattle.lab_store_tables.specs.Held.{IsTyped}
 use Rattle.lab_store_tables.proofs.Tables.{stored_with, rising_with, held_if_stored}
-use Rattle.lab_store_write.specs.Causes.{IsOurs}
+use Rattle.lab_store_write.specs.Causes.{is_writing, IsOurs}
 use Rattle.lab_store_write.proofs.Columns.{cast_new}
 use Rattle.lab_store_write.proofs.Writes.{add_next, next_id, uncounted}
 use Rattle.lab_store_write.proofs.Inside.{Wrote}
@@ -82,17 +82,17 @@ adds k one old new count typed next did =
     }
 
 -- it is a statement of ours
-asks : (k : Name) (one : RowOf k) → IsOnRows (text_of k) (length (values_of k one)) (understood lab_schema (text_of k))
+asks : (k : Name) (one : RowOf k) → IsOnRows is_writing (text_of k) (length (values_of k one)) (understood lab_schema (text_of k))
 unfolding understood everything
-asks Desk one = (lit≤ tt, refl, refl, refl)
-asks _ one = (lit≤ tt, refl, refl, refl)
+asks Desk one = (lit≤ tt, refl, refl, refl, refl)
+asks _ one = (lit≤ tt, refl, refl, refl, refl)
 
 unlisted : (k : Name) → reads_listing lab_schema (text_of k) ≡ false
 unfolding understood everything
 unlisted Desk = refl
 unlisted _ = refl
 
-pub adds_ours : (k : Name) (one : RowOf k) → IsOurs (text_of k) (values_of k one)
+pub adds_ours : (k : Name) (one : RowOf k) → IsOurs is_writing (text_of k) (values_of k one)
 adds_ours k one = ours (text_of k) (values_of k one) (asks k one) (unlisted k)
 
 -- the id that the connection returns then

@@ -15,7 +15,7 @@ use Rattle.lab_store_tables.specs.Family.{Persons}
 use Rattle.lab_store_read.proofs.Texts.{Means, is_param}
 use Rattle.lab_store_read.proofs.Sorted.{and_true}
 use Rattle.lab_store_write.specs.Calls.{Steps, Finds}
-use Rattle.lab_store_write.specs.Causes.{IsOurs}
+use Rattle.lab_store_write.specs.Causes.{is_reading, IsOurs}
 use Rattle.lab_store_write.specs.Ids.{id_read}
 use Rattle.lab_store_write.specs.Shown.{persons_shown}
 use Rattle.lab_store_write.proofs.Inside.{steps_weaker, steps_none}
@@ -35,9 +35,9 @@ pub person_means : Means person_text (by_key_query 3 person_tests (col 1 0 ∷ [
 unfolding understood everything
 person_means = record { read = (_, refl); command = refl; unlisted = refl; plain = (refl, refl) }
 
-pub person_ours : (lab : ℤ) (code : List ℕ) → IsOurs person_text (Int lab ∷ Text code ∷ [])
+pub person_ours : (lab : ℤ) (code : List ℕ) → IsOurs is_reading person_text (Int lab ∷ Text code ∷ [])
 unfolding understood everything
-person_ours lab code = ours _ _ (lit≤ tt, refl, refl, refl) person_means.unlisted
+person_ours lab code = ours _ _ (lit≤ tt, refl, refl, refl, refl) person_means.unlisted
 
 pub persons_read : (old new : State) (lab : ℤ) (code : List ℕ) (rows : List Row) → IsTyped old.now → Shown person_text (Int lab ∷ Text code ∷ []) old new rows → rows ≡ persons_shown lab code (tables_in old.now.trees)
 persons_read old new lab code rows typed h =

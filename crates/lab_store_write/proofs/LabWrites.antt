@@ -8,7 +8,7 @@ use Rattle.lab_store_tables.specs.Rows.{LabRow, tables_in, number}
 use Rattle.lab_store_tables.specs.Changes.{in_lab}
 use Rattle.lab_store_tables.specs.Held.{IsTyped}
 use Rattle.lab_store_tables.specs.Family.{Labs}
-use Rattle.lab_store_write.specs.Causes.{IsOurs}
+use Rattle.lab_store_write.specs.Causes.{is_writing, IsOurs}
 use Rattle.lab_store_write.proofs.Updates.{IsUpdate, given, by_id, sets}
 use Rattle.lab_store_write.proofs.Inside.{Wrote}
 use Rattle.lab_store_write.proofs.Ours.{ours}
@@ -22,9 +22,9 @@ last_is : IsUpdate Labs by_id (given 1 (codes "last" ∷ [])) last_text
 unfolding understood everything
 last_is = ((refl, refl), refl)
 
-pub last_ours : (id : ℤ) (count : ℕ) → IsOurs last_text (Int id ∷ number count ∷ [])
+pub last_ours : (id : ℤ) (count : ℕ) → IsOurs is_writing last_text (Int id ∷ number count ∷ [])
 unfolding understood everything
-last_ours id count = ours _ _ (lit≤ tt, refl, refl, refl) refl
+last_ours id count = ours _ _ (lit≤ tt, refl, refl, refl, refl) refl
 
 pub sets_last : (id : ℤ) (count : ℕ) (old new : State) (rows : ℕ) → IsTyped old.now → Executes last_text (Int id ∷ number count ∷ []) old new (Ok rows)
     → Wrote (in_lab id (λ (one : LabRow). record one { last = count }) (tables_in old.now.trees)) new.now
@@ -39,9 +39,9 @@ strays_is : IsUpdate Labs by_id (given 1 (codes "stray" ∷ [])) strays_text
 unfolding understood everything
 strays_is = ((refl, refl), refl)
 
-pub strays_ours : (id : ℤ) (count : ℕ) → IsOurs strays_text (Int id ∷ number count ∷ [])
+pub strays_ours : (id : ℤ) (count : ℕ) → IsOurs is_writing strays_text (Int id ∷ number count ∷ [])
 unfolding understood everything
-strays_ours id count = ours _ _ (lit≤ tt, refl, refl, refl) refl
+strays_ours id count = ours _ _ (lit≤ tt, refl, refl, refl, refl) refl
 
 pub sets_strays : (id : ℤ) (count : ℕ) (old new : State) (rows : ℕ) → IsTyped old.now → Executes strays_text (Int id ∷ number count ∷ []) old new (Ok rows)
     → Wrote (in_lab id (λ (one : LabRow). record one { stray = count }) (tables_in old.now.trees)) new.now
@@ -56,9 +56,9 @@ records_is : IsUpdate Labs by_id (given 1 (codes "records" ∷ [])) records_text
 unfolding understood everything
 records_is = ((refl, refl), refl)
 
-pub records_ours : (id : ℤ) (count : ℕ) → IsOurs records_text (Int id ∷ number count ∷ [])
+pub records_ours : (id : ℤ) (count : ℕ) → IsOurs is_writing records_text (Int id ∷ number count ∷ [])
 unfolding understood everything
-records_ours id count = ours _ _ (lit≤ tt, refl, refl, refl) refl
+records_ours id count = ours _ _ (lit≤ tt, refl, refl, refl, refl) refl
 
 pub sets_records : (id : ℤ) (count : ℕ) (old new : State) (rows : ℕ) → IsTyped old.now → Executes records_text (Int id ∷ number count ∷ []) old new (Ok rows)
     → Wrote (in_lab id (λ (one : LabRow). record one { records = count }) (tables_in old.now.trees)) new.now
@@ -73,9 +73,9 @@ sessions_is : IsUpdate Labs by_id (given 1 (codes "sessions" ∷ [])) sessions_t
 unfolding understood everything
 sessions_is = ((refl, refl), refl)
 
-pub sessions_ours : (id : ℤ) (count : ℕ) → IsOurs sessions_text (Int id ∷ number count ∷ [])
+pub sessions_ours : (id : ℤ) (count : ℕ) → IsOurs is_writing sessions_text (Int id ∷ number count ∷ [])
 unfolding understood everything
-sessions_ours id count = ours _ _ (lit≤ tt, refl, refl, refl) refl
+sessions_ours id count = ours _ _ (lit≤ tt, refl, refl, refl, refl) refl
 
 pub sets_sessions : (id : ℤ) (count : ℕ) (old new : State) (rows : ℕ) → IsTyped old.now → Executes sessions_text (Int id ∷ number count ∷ []) old new (Ok rows)
     → Wrote (in_lab id (λ (one : LabRow). record one { sessions = count }) (tables_in old.now.trees)) new.now
@@ -90,9 +90,9 @@ trail_is : IsUpdate Labs by_id (given 1 (codes "trail" ∷ [])) trail_text
 unfolding understood everything
 trail_is = ((refl, refl), refl)
 
-pub trail_ours : (id : ℤ) (count : ℕ) → IsOurs trail_text (Int id ∷ number count ∷ [])
+pub trail_ours : (id : ℤ) (count : ℕ) → IsOurs is_writing trail_text (Int id ∷ number count ∷ [])
 unfolding understood everything
-trail_ours id count = ours _ _ (lit≤ tt, refl, refl, refl) refl
+trail_ours id count = ours _ _ (lit≤ tt, refl, refl, refl, refl) refl
 
 pub sets_trail : (id : ℤ) (count : ℕ) (old new : State) (rows : ℕ) → IsTyped old.now → Executes trail_text (Int id ∷ number count ∷ []) old new (Ok rows)
     → Wrote (in_lab id (λ (one : LabRow). record one { trail = count }) (tables_in old.now.trees)) new.now
@@ -107,9 +107,9 @@ row_is : IsUpdate Labs by_id (given 1 (codes "last" ∷ codes "trail" ∷ [])) r
 unfolding understood everything
 row_is = ((refl, refl), refl)
 
-pub row_ours : (id : ℤ) (moment count : ℕ) → IsOurs row_text (Int id ∷ number moment ∷ number count ∷ [])
+pub row_ours : (id : ℤ) (moment count : ℕ) → IsOurs is_writing row_text (Int id ∷ number moment ∷ number count ∷ [])
 unfolding understood everything
-row_ours id moment count = ours _ _ (lit≤ tt, refl, refl, refl) refl
+row_ours id moment count = ours _ _ (lit≤ tt, refl, refl, refl, refl) refl
 
 pub sets_row : (id : ℤ) (moment count : ℕ) (old new : State) (rows : ℕ) → IsTyped old.now → Executes row_text (Int id ∷ number moment ∷ number count ∷ []) old new (Ok rows)
     → Wrote (in_lab id (λ (one : LabRow). record one { last = moment; trail = count }) (tables_in old.now.trees)) new.now

@@ -14,7 +14,7 @@ use Rattle.lab_store_tables.specs.Held.{IsTyped}
 use Rattle.lab_store_tables.specs.Sheets.{names}
 use Rattle.lab_store_tables.specs.Family.{Persons, kept}
 use Rattle.lab_store_tables.proofs.FamilyWords.{values_of}
-use Rattle.lab_store_write.specs.Causes.{IsOurs}
+use Rattle.lab_store_write.specs.Causes.{is_writing, IsOurs}
 use Rattle.lab_store_write.proofs.Inserts.{adds, adds_ours}
 use Rattle.lab_store_write.proofs.Updates.{IsUpdate, given, by_id, sets}
 use Rattle.lab_store_write.proofs.Writes.{update_same}
@@ -34,7 +34,7 @@ pub adds_person : (one : PersonRow) (old new : State) (count : ℕ) → IsTyped 
     → Wrote (put_person one (tables_in old.now.trees)) new.now
 adds_person = adds Persons
 
-pub add_person_ours : (one : PersonRow) → IsOurs add_person_text (person_values one)
+pub add_person_ours : (one : PersonRow) → IsOurs is_writing add_person_text (person_values one)
 add_person_ours = adds_ours Persons
 
 -- ---- a row of persons set, but its ids
@@ -46,9 +46,9 @@ set_person_is : IsUpdate Persons by_id (given 1 (names (kept Persons).sheet.colu
 unfolding understood everything
 set_person_is = ((refl, refl), refl)
 
-pub set_person_ours : (id : ℤ) (row : PersonRow) → IsOurs set_person_text (Int id ∷ person_values row)
+pub set_person_ours : (id : ℤ) (row : PersonRow) → IsOurs is_writing set_person_text (Int id ∷ person_values row)
 unfolding understood everything
-set_person_ours id row = ours _ _ (lit≤ tt, refl, refl, refl) refl
+set_person_ours id row = ours _ _ (lit≤ tt, refl, refl, refl, refl) refl
 
 pub sets_person : (row : PersonRow) (old new : State) (count : ℕ) → IsTyped old.now → Executes set_person_text (Int row.id ∷ person_values row) old new (Ok count)
     → Wrote (set_person row (tables_in old.now.trees)) new.now

@@ -9,20 +9,20 @@ use Rattle.lab_store_tables.specs.Held.{IsTyped}
 use Rattle.lab_store_tables.specs.Ready.{tables_of}
 use Rattle.lab_store_write.specs.declared.statements.RowId.{RowId}
 use Rattle.lab_store_write.specs.Calls.{Stays, AnswersCall}
-use Rattle.lab_store_write.specs.Causes.{FailsBy, IsOurs}
+use Rattle.lab_store_write.specs.Causes.{is_writing, FailsBy, IsOurs}
 use Rattle.lab_store_write.proofs.Inside.{Wrote}
 
 module _ {T : Type 0} {lender : T → ℕ × ℕ} {state : T → State} {old new : T} where
   -- a statement that makes these tables of one row more; its parameters are given in other words
-  pub placed : (sql : List ℕ) (params : Row) → IsOurs sql params → (made : Tables → Tables) (next : Tables → ℤ) {given : Row} {r : Result RowId Error} → Stays lender state old new → given ≡ params
+  pub placed : (sql : List ℕ) (params : Row) → IsOurs is_writing sql params → (made : Tables → Tables) (next : Tables → ℤ) {given : Row} {r : Result RowId Error} → Stays lender state old new → given ≡ params
       → (IsTrue (state old).in_transaction → HasCleanDisk (state new)
       → IfOk r (λ one. (count : ℕ) × ExecutesInside 0 sql given (state old) (state new) (Ok count) × (one.id ≡ (state new).last_rowid)))
       → ((count : ℕ) → IsTyped (state old).now → Executes sql params (state old) (state new) (Ok count)
       → Wrote (made (tables_of (state old))) (state new).now × ((state new).last_rowid ≡ next (tables_of (state old))))
-      → (IsOurs sql given → IsTrue (state old).in_transaction → HasCleanDisk (state new) → IfErr r (FailsBy state old new))
+      → (IsOurs is_writing sql given → IsTrue (state old).in_transaction → HasCleanDisk (state new) → IsTyped (state old).now → IfErr r (FailsBy state old new))
       → AnswersCall lender state (λ (one : RowId) before after. (one.id ≡ next before) × (after ≡ made before)) old new r
   placed sql params ours made next {given} {r} stays same ran wrote fails = record {
-    failed = λ inside clean typed. badly r (fails (subst (IsOurs sql) (sym same) ours) inside clean);
+    failed = λ inside clean typed. badly r (fails (subst (IsOurs is_writing sql) (sym same) ours) inside clean typed);
     stays = stays;
     made = λ inside clean. if_then r (λ one it.
         let told : ExecutesInside 0 sql params (state old) (state new) (Ok it.0) =

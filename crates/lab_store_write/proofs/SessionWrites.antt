@@ -33,7 +33,7 @@ use Rattle.lab_store_tables.proofs.RowSet.{map_alike}
 use Rattle.lab_store_read.proofs.Texts.{is_param}
 use Rattle.lab_store_read.proofs.Sorted.{and_true}
 use Rattle.lab_store_read.proofs.Lists.{int_alike}
-use Rattle.lab_store_write.specs.Causes.{IsOurs}
+use Rattle.lab_store_write.specs.Causes.{is_writing, IsOurs}
 use Rattle.lab_store_write.proofs.Inserts.{adds, adds_ours}
 use Rattle.lab_store_write.proofs.Updates.{IsUpdate, given, sets_where}
 use Rattle.lab_store_write.proofs.Inside.{Wrote}
@@ -54,7 +54,7 @@ pub adds_session : (one : SessionRow) (old new : State) (count : ℕ) → IsType
     → Wrote (put_session one (tables_in old.now.trees)) new.now
 adds_session = adds Sessions
 
-pub add_session_ours : (one : SessionRow) → IsOurs add_session_text (session_values one)
+pub add_session_ours : (one : SessionRow) → IsOurs is_writing add_session_text (session_values one)
 add_session_ours = adds_ours Sessions
 
 -- ---- the row of a token set
@@ -76,9 +76,9 @@ set_session_is = ((refl, refl), refl)
 abbrev pub set_session_values : ℤ → ℤ → Session → Row
 set_session_values lab person session = Int lab ∷ Blob session.token ∷ Int person ∷ number session.number ∷ number session.opened ∷ number session.last ∷ flag session.closed ∷ flag session.signed ∷ []
 
-pub set_session_ours : (lab person : ℤ) (session : Session) → IsOurs set_session_text (set_session_values lab person session)
+pub set_session_ours : (lab person : ℤ) (session : Session) → IsOurs is_writing set_session_text (set_session_values lab person session)
 unfolding understood everything
-set_session_ours lab person session = ours _ _ (lit≤ tt, refl, refl, refl) refl
+set_session_ours lab person session = ours _ _ (lit≤ tt, refl, refl, refl, refl) refl
 
 module _ (lab : ℤ) (token : List ℕ) where
   token_agrees : (a b : SessionRow) → is_session lab token a ≡ true → is_session lab token b ≡ true → agree plain (2 ∷ 5 ∷ []) (session_row a) (2 ∷ 5 ∷ []) (session_row b) ≡ true

@@ -8,7 +8,7 @@ use Rattle.sqlite_trees.specs.declared.error.StoreError.TheVariants.{OutOfMemory
 use Rattle.sqlite_trees.specs.Tree.{Trees}
 use Rattle.sqlite.specs.declared.error.Error.{Error}
 use Rattle.sqlite.specs.Held.{Held, state}
-use Rattle.sqlite.specs.State.{State, HasCause, HasCleanDisk, IsRolledBack, Survives, store_error}
+use Rattle.sqlite.specs.State.{State, HasCause, HasCleanDisk, IsRolledBack, IsUnchanged, Survives, store_error}
 use Rattle.sqlite.specs.Steps.{FailsToCommit}
 use Rattle.sqlite.proofs.Callers.{survives_begin}
 use Rattle.lab_records_keeper.specs.Worlds.{HasFaulted}
@@ -17,7 +17,7 @@ use Rattle.lab_store_read.specs.Causes.{IsCaused}
 use Rattle.lab_store_read.specs.Cells.{storage}
 use Rattle.lab_store_read.specs.Faults.{is_out_of_memory, store_fault}
 use Rattle.lab_store_write.specs.Causes.{EndsBy, FailsBy}
-use Rattle.lab_store_write.specs.Transactions.{EndsForCause, FailsWithin, HasOurTables, TransactionEndsForCause}
+use Rattle.lab_store_write.specs.Transactions.{EndsForCause, FailsWithin, HasOurTables, StaysAsIs, TransactionEndsForCause}
 
 -- ---- what is told of an error
 
@@ -36,7 +36,7 @@ module _ {T U : Type 0} (f : T → U) (state : U → State) where
   fails_as Beside a b (Ok x) why = tt
   fails_as Beside a b (Err e) (inl beside) = inl beside
   fails_as Beside a b (Err e) (inr (inl memory)) = inr (inl memory)
-  fails_as Beside a b (Err e) (inr (inr it)) = inr (inr (record { last = f it.last; led = it.led; why = it.why }))
+  fails_as Beside a b (Err e) (inr (inr it)) = inr (inr (record { last = f it.last; led = it.led; ran = it.ran; why = it.why }))
 
 -- ---- a fault that was seen between
 
@@ -45,6 +45,32 @@ since first mid last later faulted = omega (arith, later, faulted)
 
 until : (first mid last : ℕ) → mid ≤ last → HasFaulted first mid → HasFaulted first last
 until first mid last later faulted = omega (arith, later, faulted)
+
+-- ---- a connection that stays as it is
+
+pub unchanged : (s : State) → IsTrue s.is_open → StaysAsIs s s
+unchanged s opened = record {
+  same = (record { was_open = opened; is_open = opened; now_is = refl; committed_is = refl; mode = refl }, record { changes = refl; last_rowid = refl }, refl);
+  counts = omega arith;
+  limit = refl;
+}
+
+pub as_is_then : (a b c : State) → StaysAsIs a b → StaysAsIs b c → StaysAsIs a c
+as_is_then a b c p q = record {
+  same = (
+    record {
+      was_open = p.same.0.was_open;
+      is_open = q.same.0.is_open;
+      now_is = q.same.0.now_is ∙ p.same.0.now_is;
+      committed_is = q.same.0.committed_is ∙ p.same.0.committed_is;
+      mode = q.same.0.mode ∙ p.same.0.mode;
+    },
+    record { changes = q.same.1.changes ∙ p.same.1.changes; last_rowid = q.same.1.last_rowid ∙ p.same.1.last_rowid },
+    q.same.2 ∙ p.same.2,
+  );
+  counts = omega (arith, p.counts, q.counts);
+  limit = q.limit ∙ p.limit;
+}
 
 -- ---- a transaction, by the states between: as it began, before its end, and after it
 
@@ -68,13 +94,13 @@ module _ {S : Type 0} (g : Ghosts S) (old begun last end : Held S) (is : begun �
           | inr fails ↦ elim fails [
             | inl memory ↦ absurd (let m = memory in let t = told in cc)
             | inr it ↦ inr (inr (record {
-              begun = begun;
+              from = old;
+              as_is = unchanged (state g old) opened;
               last = last;
-              inside = inside;
-              rows = ap (λ h. (state g h).now) is;
               error = e;
               told = told;
-              ends = it;
+              ends = subst (λ (h : Held S). Ends h last e) is it;
+              ended = three;
               undone = undone clean;
             }))
           ]

@@ -14,8 +14,8 @@ use Rattle.lab_store_tables.specs.Held.{IsTyped}
 use Rattle.lab_store_tables.specs.Ready.{tables_of}
 use Rattle.lab_store_read.proofs.Queries.{IsRead, if_then}
 use Rattle.lab_store_write.specs.Calls.{Steps, Stays, AnswersUnless, AnswersCall, Writes, Becomes, Finds, MadeFrom, CountsBelow}
-use Rattle.lab_store_write.specs.Causes.{IsVain, IsOurs, IsShown, IsRun, FailsBy}
-use Rattle.lab_store_write.proofs.Failing.{unmoved, fails_here, ran_badly, asked_badly, fails_behind}
+use Rattle.lab_store_write.specs.Causes.{is_reading, is_writing, IsVain, IsOurs, IsShown, IsRun, RunsInside, FailsBy}
+use Rattle.lab_store_write.proofs.Failing.{unmoved, still_on, fails_here, ran_badly, asked_badly, fails_behind}
 use Rattle.lab_store_write.proofs.Inside.{Wrote, made_as, steps_weaker, found_then, known_then, keeps_then, none_then, turns_none, turns_more}
 use Rattle.lab_store_write.proofs.Lookups.{looked, looked_keeps}
 
@@ -23,7 +23,7 @@ module _ {T : Type 0} {lender : T → ℕ × ℕ} {state : T → State} {Beside 
   -- ---- a statement
 
   -- that makes a step, by the number of rows that it returns; its parameters are given in other words
-  pub wrote_as : (sql : List ℕ) (params : Row) → IsOurs sql params → (step : ℕ → Tables → Tables → Type 0) {given : Row} {r : Result ℕ Error} → Stays lender state old new → given ≡ params
+  pub wrote_as : (sql : List ℕ) (params : Row) → IsOurs is_writing sql params → (step : ℕ → Tables → Tables → Type 0) {given : Row} {r : Result ℕ Error} → Stays lender state old new → given ≡ params
       → (IsTrue (state old).in_transaction → HasCleanDisk (state new) → ExecutesInside 0 sql given (state old) (state new) r)
       → ((count : ℕ) → IsTyped (state old).now → Executes sql params (state old) (state new) (Ok count) → (t : Tables) × Wrote t (state new).now × step count (tables_of (state old)) t)
       → AnswersUnless Beside lender state step old new r
@@ -31,15 +31,15 @@ module _ {T : Type 0} {lender : T → ℕ × ℕ} {state : T → State} {Beside 
     stays = stays;
     made = λ inside clean. made_as sql params (state old) (state new) step r
         (subst (λ (row : Row). ExecutesInside 0 sql row (state old) (state new) r) same (ran inside clean)) makes;
-    failed = λ inside clean typed. badly r (ran inside clean);
+    failed = λ inside clean typed. badly (still_on (state old) (state new) stays.survives inside clean typed) r (ran inside clean);
   }
     where
-      badly : (r : Result ℕ Error) → ExecutesInside 0 sql given (state old) (state new) r → IfErr r (λ e. Beside e ⊎ FailsBy state old new e)
-      badly (Ok count) did = tt
-      badly (Err e) did = inr (ran_badly state sql given (subst (IsOurs sql) (sym same) ours) old new e did)
+      badly : RunsInside (state old) (state new) → (r : Result ℕ Error) → ExecutesInside 0 sql given (state old) (state new) r → IfErr r (λ e. Beside e ⊎ FailsBy state old new e)
+      badly goes (Ok count) did = tt
+      badly goes (Err e) did = inr (ran_badly state sql given (subst (IsOurs is_writing sql) (sym same) ours) old new e goes did)
 
   -- that makes these tables
-  pub wrote : (sql : List ℕ) (params : Row) → IsOurs sql params → (made : Tables → Tables) {given : Row} {r : Result ℕ Error} → Stays lender state old new → given ≡ params
+  pub wrote : (sql : List ℕ) (params : Row) → IsOurs is_writing sql params → (made : Tables → Tables) {given : Row} {r : Result ℕ Error} → Stays lender state old new → given ≡ params
       → (IsTrue (state old).in_transaction → HasCleanDisk (state new) → ExecutesInside 0 sql given (state old) (state new) r)
       → ((count : ℕ) → IsTyped (state old).now → Executes sql params (state old) (state new) (Ok count) → Wrote (made (tables_of (state old))) (state new).now)
       → AnswersUnless Beside lender state (λ _. Becomes made) old new r
@@ -49,7 +49,7 @@ module _ {T : Type 0} {lender : T → ℕ × ℕ} {state : T → State} {Beside 
   -- ---- a look-up
 
   -- whose rows are those that the tables show
-  pub rows_found : (sql : List ℕ) → IsRead (first sql) → (params : Row) → IsOurs sql params → (answer : Tables → List Row) {given : Row} {r : Result (Vec Row Global) Error} → given ≡ params
+  pub rows_found : (sql : List ℕ) → IsRead (first sql) → (params : Row) → IsOurs is_reading sql params → (answer : Tables → List Row) {given : Row} {r : Result (Vec Row Global) Error} → given ≡ params
       → lender new ≡ lender old → Survives (state old) (state new) (λ _. ⊥)
       → (HasCleanDisk (state new) → IfOk r (λ rows. Shown sql given (state old) (state new) rows.items))
       → (HasCleanDisk (state new) → IfErr r (λ e. FailsToQuery sql given (state old) (state new) e ⊎ IsTooLate sql given (state old) (state new) e))
@@ -65,16 +65,16 @@ module _ {T : Type 0} {lender : T → ℕ × ℕ} {state : T → State} {Beside 
         };
         made = λ inside clean. looked sql read params (state old) (state new) before r answer inside exact
             (subst (λ (row : Row). IfOk r (λ rows. Shown sql row (state old) (state new) rows.items)) is (ok clean));
-        failed = λ inside clean typed. badly r (err clean);
+        failed = λ inside clean typed. badly (still_on (state old) (state new) survives inside clean typed) r (err clean);
       }
     where
-      badly : (r : Result (Vec Row Global) Error) → IfErr r (λ e. FailsToQuery sql given (state old) (state new) e ⊎ IsTooLate sql given (state old) (state new) e)
+      badly : RunsInside (state old) (state new) → (r : Result (Vec Row Global) Error) → IfErr r (λ e. FailsToQuery sql given (state old) (state new) e ⊎ IsTooLate sql given (state old) (state new) e)
           → IfErr r (λ e. Beside e ⊎ FailsBy state old new e)
-      badly (Ok rows) err = tt
-      badly (Err e) err = inr (asked_badly state sql given (subst (IsOurs sql) (sym is) ours) old new e err)
+      badly goes (Ok rows) err = tt
+      badly goes (Err e) err = inr (asked_badly state sql given (subst (IsOurs is_reading sql) (sym is) ours) old new e goes err)
 
   -- one more than the rows that the tables show
-  pub place_found : {sql : List ℕ} {parent : ℤ} → IsRead (first sql) → IsOurs sql (Int parent ∷ []) → (answer : Tables → List Row) (count : Tables → ℕ) {r : Result ℕ Error}
+  pub place_found : {sql : List ℕ} {parent : ℤ} → IsRead (first sql) → IsOurs is_reading sql (Int parent ∷ []) → (answer : Tables → List Row) (count : Tables → ℕ) {r : Result ℕ Error}
       → CountsBelow lender state sql parent old new r
       → ((rows : List Row) → IsTyped (state old).now → Shown sql (Int parent ∷ []) (state old) (state new) rows → rows ≡ answer (tables_of (state old)))
       → ((t : Tables) → length (answer t) ≡ count t)
@@ -82,16 +82,16 @@ module _ {T : Type 0} {lender : T → ℕ × ℕ} {state : T → State} {Beside 
   place_found {sql} {parent} read ours answer count {r} it exact counts = record {
     stays = record { same_lender = it.same_lender; survives = it.survives; kept = λ inside clean. keeps r (it.ok clean) (it.err clean) };
     made = λ inside clean. makes inside r (it.ok clean);
-    failed = λ inside clean typed. badly r (it.err clean);
+    failed = λ inside clean typed. badly (still_on (state old) (state new) it.survives inside clean typed) r (it.err clean);
   }
     where
       before : HasCleanDisk (state new) → HasCleanDisk (state old)
       before clean = let s = it.survives in omega (arith, s.clean)
 
-      badly : (r : Result ℕ Error) → IfErr r (λ e. FailsToQuery sql (Int parent ∷ []) (state old) (state new) e ⊎ IsTooLate sql (Int parent ∷ []) (state old) (state new) e)
+      badly : RunsInside (state old) (state new) → (r : Result ℕ Error) → IfErr r (λ e. FailsToQuery sql (Int parent ∷ []) (state old) (state new) e ⊎ IsTooLate sql (Int parent ∷ []) (state old) (state new) e)
           → IfErr r (λ e. Beside e ⊎ FailsBy state old new e)
-      badly (Ok place) err = tt
-      badly (Err e) err = inr (asked_badly state sql (Int parent ∷ []) ours old new e err)
+      badly goes (Ok place) err = tt
+      badly goes (Err e) err = inr (asked_badly state sql (Int parent ∷ []) ours old new e goes err)
 
       keeps : (r : Result ℕ Error) → IfOk r (λ place. (rows : Vec Row Global) × Shown sql (Int parent ∷ []) (state old) (state new) rows.items × (place ≡ length rows.items + 1))
           → IfErr r (λ e. FailsToQuery sql (Int parent ∷ []) (state old) (state new) e ⊎ IsTooLate sql (Int parent ∷ []) (state old) (state new) e)
@@ -116,25 +116,25 @@ module _ {T : Type 0} {lender : T → ℕ × ℕ} {state : T → State} {Beside 
   answers_as {r = r} it f = record { stays = it.stays; made = λ inside clean. if_then r f (it.made inside clean); failed = it.failed }
 
 -- the rows of a look-up, as it shows them
-pub shown_rows : (old new : State) (sql : List ℕ) (params : Row) {given : Row} → IsOurs sql params → given ≡ params → (r : Result (Vec Row Global) Error) → (HasCleanDisk new → IfOk r (λ rows. Shown sql given old new rows.items))
+pub shown_rows : (old new : State) (sql : List ℕ) (params : Row) {given : Row} → IsOurs is_reading sql params → given ≡ params → (r : Result (Vec Row Global) Error) → (HasCleanDisk new → IfOk r (λ rows. Shown sql given old new rows.items))
     → HasCleanDisk new → IfOk r (λ rows. IsShown old new rows.items)
 shown_rows old new sql params {given} ours same r ok clean =
-    if_then r (λ rows shown. record { sql = sql; params = given; ours = subst (IsOurs sql) (sym same) ours; shown = shown }) (ok clean)
+    if_then r (λ rows shown. record { sql = sql; params = given; ours = subst (IsOurs is_reading sql) (sym same) ours; shown = shown }) (ok clean)
 
 -- how many rows a statement has written
-pub ran_so : (old new : State) (sql : List ℕ) (params : Row) {given : Row} → IsOurs sql params → given ≡ params → (r : Result ℕ Error) → ExecutesInside 0 sql given old new r → IfOk r (IsRun old new)
-ran_so old new sql params {given} ours same (Ok count) ran = record { sql = sql; params = given; ours = subst (IsOurs sql) (sym same) ours; ran = ran }
+pub ran_so : (old new : State) (sql : List ℕ) (params : Row) {given : Row} → IsOurs is_writing sql params → given ≡ params → (r : Result ℕ Error) → ExecutesInside 0 sql given old new r → IfOk r (IsRun old new)
+ran_so old new sql params {given} ours same (Ok count) ran = record { sql = sql; params = given; ours = subst (IsOurs is_writing sql) (sym same) ours; ran = ran }
 ran_so old new sql params ours same (Err e) ran = tt
 
 -- a statement that was refused, and that is passed on
 pub run_fails : {T A : Type 0} {lender : T → ℕ × ℕ} {state : T → State} {Beside : Error → Type 0} {step : A → Tables → Tables → Type 0} {a b : T} {e : Error} (sql : List ℕ) (params : Row) {given : Row}
-    → IsOurs sql params → given ≡ params → Stays lender state a b → (IsTrue (state a).in_transaction → HasCleanDisk (state b) → ExecutesInside 0 sql given (state a) (state b) (Err e))
+    → IsOurs is_writing sql params → given ≡ params → Stays lender state a b → (IsTrue (state a).in_transaction → HasCleanDisk (state b) → ExecutesInside 0 sql given (state a) (state b) (Err e))
     → (r : Result A Error) → IsErrAnd r (λ d. d ≡ e) → AnswersUnless Beside lender state step a b r
 run_fails sql params ours same stays ran (Ok x) failed = absurd failed
 run_fails {state = state} {Beside = Beside} {a = a} {b = b} {e = e} sql params {given} ours same stays ran (Err d) failed = record {
   stays = stays;
   made = λ inside clean. tt;
-  failed = λ inside clean typed. subst (λ (d : Error). Beside d ⊎ FailsBy state a b d) (sym failed) (inr (ran_badly state sql given (subst (IsOurs sql) (sym same) ours) a b e (ran inside clean)));
+  failed = λ inside clean typed. subst (λ (d : Error). Beside d ⊎ FailsBy state a b d) (sym failed) (inr (ran_badly state sql given (subst (IsOurs is_writing sql) (sym same) ours) a b e (still_on (state a) (state b) stays.survives inside clean typed) (ran inside clean)));
 }
 
 -- ---- no call
@@ -344,13 +344,13 @@ module _ {T : Type 0} {lender : T → ℕ × ℕ} {state : T → State} {Kept : 
   and_named {Beside} {r = r} shown f vain = record {
     stays = p.stays;
     made = λ inside clean. f (p.made inside clean);
-    failed = λ inside clean typed. badly r (shown clean) (vain (tables_of (state a)) ((p.made inside clean).made typed).1.0);
+    failed = λ inside clean typed. badly (still_on (state a) (state b) p.stays.survives inside clean typed) r (shown clean) (vain (tables_of (state a)) ((p.made inside clean).made typed).1.0);
   }
     where
-      badly : {B : Type 0} (r : Result B Error) → IsShown (state a) (state b) rows.items → IfErr r (IsVain rows.items) → IfErr r (λ e. Beside e ⊎ FailsBy state a b e)
-      badly (Ok y) it bad = tt
-      badly (Err e) it (inl memory) = inr (inl memory)
-      badly (Err e) it (inr none) = inr (fails_here state a b e (inr (record { told = none.0; vain = inr (rows.items, it, none.1) })))
+      badly : {B : Type 0} → RunsInside (state a) (state b) → (r : Result B Error) → IsShown (state a) (state b) rows.items → IfErr r (IsVain rows.items) → IfErr r (λ e. Beside e ⊎ FailsBy state a b e)
+      badly goes (Ok y) it bad = tt
+      badly goes (Err e) it (inl memory) = inr (inl memory)
+      badly goes (Err e) it (inr none) = inr (fails_here state a b e goes (inr (record { told = none.0; vain = inr (rows.items, it, none.1) })))
 
   -- a call after it fails, but not for what the rows rule out
   pub then_fails_apart : {Bad : Type 0} {Beside : Error → Type 0} {B C : Type 0} {Q : B → Tables → Tables → Type 0} {R : C → Tables → Tables → Type 0} {c : T} {e : Error}

@@ -1,7 +1,7 @@
 -- Why a call inside a transaction fails: memory ran out, or the transaction refused the last
 -- statement of the call, or that statement finds no row of what is named. The statement is one that
--- our schema understands, on rows, and gets all its parameters: that a text isn't understood, or
--- ends or begins a transaction, is no cause.
+-- our schema understands, on rows, and gets all its parameters: that a text isn't understood, ends or
+-- begins a transaction, or shows rows where it is executed, is no cause.
 use Rattle.std.specs.Prelude.{◌≡◌, ◌⊎◌, ◌^◌, ◌≤◌, ℕ, Bool, true, false, List, [], length, None, Ok, Err, IsSomeAnd, IsTrue, IsFalse, slice_get}
 use Rattle.std.specs.Option.{option_map_or}
 use Rattle.sqlite_value.specs.Order.{Row}
@@ -11,7 +11,8 @@ use Rattle.sqlite_resolve.specs.declared.compiled.Compiled.{Compiled}
 use Rattle.sqlite.specs.Listing.{understood, reads_listing}
 use Rattle.sqlite.specs.declared.error.Error.{Error}
 use Rattle.sqlite.specs.declared.error.Error.TheVariants.{QueryReturnedNoRows}
-use Rattle.sqlite.specs.State.{State, Survives, Shown, ExecutesInside, FailsToQuery, IsTooLate}
+use Rattle.sqlite.specs.State.{State, HasCleanDisk, Survives, Shown, ExecutesInside, FailsToQuery}
+use Rattle.lab_store_tables.specs.Held.{IsTyped}
 use Rattle.lab_store_tables.specs.Schema.{lab_schema}
 use Rattle.lab_store_read.specs.Cells.{is_id, stands}
 use Rattle.lab_store_read.specs.Faults.{is_out_of_memory}
@@ -38,22 +39,28 @@ IsUnnamed rows e =
     ((slice_get rows 0 ≡ None) × (e ≡ QueryReturnedNoRows))
     ⊎ IsSomeAnd (slice_get rows 0) (λ row. IsUnread row e)
 
--- it adds rows of a table, sets rows of one, or shows rows
-abbrev pub is_of_rows : Command → Bool
-is_of_rows (Insert at from) = true
-is_of_rows (Update at query) = true
-is_of_rows (Select query names) = true
-is_of_rows _ = false
+-- it adds rows to a table, or sets rows of one
+abbrev pub is_writing : Command → Bool
+is_writing (Insert at from) = true
+is_writing (Update at query) = true
+is_writing _ = false
 
--- the text is one statement on rows, as our schema understands it, with so many parameters
-pub record IsOurs (sql : List ℕ) (params : Row) : Type 0 where
+-- it shows rows
+abbrev pub is_reading : Command → Bool
+is_reading (Select query names) = true
+is_reading _ = false
+
+-- the text is one statement, which does this, as our schema understands it, with so many parameters
+pub record IsOurs (is_so : Command → Bool) (sql : List ℕ) (params : Row) : Type 0 where
   pub compiled : Compiled
   pub is : understood lab_schema sql ≡ Ok compiled
   pub whole : length sql ≤ compiled.tail
   pub given : length params ≡ length compiled.names
-  -- no time is asked, which no clock may give
+  -- it asks for no time, since a clock may give none
   pub timeless : compiled.formats ≡ []
-  pub on_rows : IsTrue (is_of_rows compiled.command)
+  -- no rows are wanted of what it writes
+  pub silent : compiled.returning ≡ None
+  pub does : IsTrue (is_so compiled.command)
   -- its tables are those of our schema, and not the list of them
   pub own : reads_listing lab_schema sql ≡ false
 
@@ -61,34 +68,45 @@ pub record IsOurs (sql : List ℕ) (params : Row) : Type 0 where
 pub record IsShown (old new : State) (rows : List Row) : Type 0 where
   pub sql : List ℕ
   pub params : Row
-  pub ours : IsOurs sql params
+  pub ours : IsOurs is_reading sql params
   pub shown : Shown sql params old new rows
 
 -- a statement of ours from here to there has written so many rows
 pub record IsRun (old new : State) (count : ℕ) : Type 0 where
   pub sql : List ℕ
   pub params : Row
-  pub ours : IsOurs sql params
+  pub ours : IsOurs is_writing sql params
   pub ran : ExecutesInside 0 sql params old new (Ok count)
 
--- a statement of ours from here to there was refused with the error
+-- a statement of ours from here to there was refused with the error: one that writes, or one that
+-- reads
 pub record IsRefused (old new : State) (e : Error) : Type 0 where
   pub sql : List ℕ
   pub params : Row
-  pub ours : IsOurs sql params
-  pub refused : ExecutesInside 0 sql params old new (Err e)
-      ⊎ (FailsToQuery sql params old new e ⊎ IsTooLate sql params old new e)
+  pub refused : (IsOurs is_writing sql params × ExecutesInside 0 sql params old new (Err e))
+      ⊎ (IsOurs is_reading sql params × FailsToQuery sql params old new e)
 
--- it names a row that isn't there: it sets none, or shows none with an id
+-- it names a row that isn't there: it writes none; or it shows none, or a first one without an id
 pub record IsNamedInVain (old new : State) (e : Error) : Type 0 where
   pub told : e ≡ QueryReturnedNoRows
   pub vain : IsRun old new 0
       ⊎ ((rows : List Row) × IsShown old new rows × IsFalse (names_one rows))
 
--- so was the last statement of a call, which committed nothing before
+-- a transaction over tables of ours is under way, and no fault of the disk went unseen so far; from here
+-- to there nothing is committed
+pub record RunsInside (old new : State) : Type 0 where
+  pub inside : IsTrue old.in_transaction
+  pub clean : HasCleanDisk old
+  pub typed : IsTyped old.now
+  pub survives : Survives old new (λ _. ⊥)
+
+-- the last statement of a call, which committed nothing before, was refused or named a row that isn't
+-- there
 pub record EndsBy {T : Type 0} (state : T → State) (old new : T) (e : Error) : Type 0 where
+  -- before that statement
   pub last : T
   pub led : Survives (state old) (state last) (λ _. ⊥)
+  pub ran : RunsInside (state last) (state new)
   pub why : IsRefused (state last) (state new) e ⊎ IsNamedInVain (state last) (state new) e
 
 abbrev pub FailsBy : {T : Type 0} → (T → State) → T → T → Error → Type 0

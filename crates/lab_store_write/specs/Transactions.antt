@@ -2,28 +2,36 @@
 -- statement was refused, or names a row that isn't there. Else the disk had a fault in the call, the
 -- connection was shut before it, or its steps have a limit; or the call is given what no store
 -- takes, which is named beside.
-use Rattle.std.specs.Prelude.{◌≡◌, ◌⊎◌, Result, IfErr, IsFalse, IsTrue}
+use Rattle.std.specs.Prelude.{◌≡◌, ◌⊎◌, ◌≤◌, true, Result, IfErr, IsFalse, IsTrue}
 use Rattle.sqlite_trees.specs.declared.store.Store.{Ghosts}
 use Rattle.sqlite.specs.declared.error.Error.{Error}
 use Rattle.sqlite.specs.Held.{Held, state}
-use Rattle.sqlite.specs.State.{State, HasCleanDisk, IsRolledBack}
+use Rattle.sqlite.specs.State.{State, HasCleanDisk, IsRolledBack, IsUnchanged, Survives}
 use Rattle.lab_store_tables.specs.Held.{IsTyped}
 use Rattle.lab_store_read.specs.Causes.{IsCaused}
 use Rattle.lab_store_read.specs.Faults.{is_out_of_memory}
 use Rattle.lab_store_write.specs.Causes.{EndsBy}
 
+-- a connection that shows what it showed: no fault is forgotten, and the steps have the limit that
+-- they had
+pub record StaysAsIs (old new : State) : Type 0 where
+  pub same : IsUnchanged old new
+  pub counts : old.faults ≤ new.faults
+  pub limit : new.step_limit ≡ old.step_limit
+
 -- a transaction over the rows that were shown ended in this way, and not for want of memory; it was
 -- then undone
 pub record FailsWithin {S : Type 0} (g : Ghosts S) (Ends : Held S → Held S → Error → Type 0)
     (old new : Held S) : Type 0 where
-  -- the transaction as it began, and as its last statement left it
-  pub begun : Held S
+  -- the connection on which it began
+  pub from : Held S
+  pub as_is : StaysAsIs (state g old) (state g from)
+  -- as its last statement left it
   pub last : Held S
-  pub inside : IsTrue (state g begun).in_transaction
-  pub rows : (state g begun).now ≡ (state g old).now
   pub error : Error
   pub told : IsFalse (is_out_of_memory error)
-  pub ends : Ends begun last error
+  pub ends : Ends (record from { in_transaction = true }) last error
+  pub ended : Survives (state g last) (state g new) (λ _. ⊥)
   pub undone : IsRolledBack (state g last) (state g new)
 
 -- by its last statement, one of ours

@@ -3,8 +3,9 @@
 ghost use Rattle.std.specs.Prelude.{◌≡◌, ℕ, Ok, IfOk, IfErr, IsTrue};
 ghost use Rattle.sqlite.specs.State.{HasCleanDisk, ExecutesInside};
 ghost use Rattle.sqlite.specs.Values.{bound};
+ghost use Rattle.lab_store_tables.specs.Held.{IsTyped};
 ghost use Rattle.lab_store_write.specs.Calls.{Stays};
-ghost use Rattle.lab_store_write.specs.Causes.{FailsBy, IsOurs};
+ghost use Rattle.lab_store_write.specs.Causes.{is_writing, FailsBy, IsOurs};
 
 use crate::statements::{RowId, run};
 use crate::writable::Writable;
@@ -21,9 +22,9 @@ pub fn insert<W: Writable>(tx: &mut W, text: &str, params: &[ValueRef<'_>]) -> R
         IfOk result (λ one. (count : ℕ) × ExecutesInside 0 text.now (bound params.now)
         (W.state tx.old) (W.state tx.new) (Ok count)
         × (one.id ≡ (W.state tx.new).last_rowid)) }
-    ensures failed { IsOurs text.now (bound params.now) →
+    ensures failed { IsOurs is_writing text.now (bound params.now) →
         IsTrue (W.state tx.old).in_transaction → HasCleanDisk (W.state tx.new) →
-        IfErr result (FailsBy W.state tx.old tx.new) }
+        IsTyped (W.state tx.old).now → IfErr result (FailsBy W.state tx.old tx.new) }
 {
     run(tx, text, params)?;
     Ok(RowId {

@@ -16,7 +16,7 @@ use Rattle.lab_store_read.proofs.Texts.{Means, is_param}
 use Rattle.lab_store_read.proofs.Sorted.{equal_numbers, and_true}
 use Rattle.lab_store_write.specs.Calls.{Steps, Finds}
 use Rattle.lab_store_write.specs.Ids.{id_read}
-use Rattle.lab_store_write.specs.Causes.{IsOurs}
+use Rattle.lab_store_write.specs.Causes.{is_reading, IsOurs}
 use Rattle.lab_store_write.proofs.Inside.{steps_weaker}
 use Rattle.lab_store_write.proofs.Lookups.{by_key_query, rows_by_key, first_key}
 use Rattle.lab_store_write.proofs.Ours.{ours}
@@ -36,9 +36,9 @@ pub record_means : Means record_text (by_key_query 15 record_tests (col 1 0 ∷ 
 unfolding understood everything
 record_means = record { read = (_, refl); command = refl; unlisted = refl; plain = (refl, refl) }
 
-pub record_ours : (lab : ℤ) (wanted : ℕ) → IsOurs record_text (Int lab ∷ number wanted ∷ [])
+pub record_ours : (lab : ℤ) (wanted : ℕ) → IsOurs is_reading record_text (Int lab ∷ number wanted ∷ [])
 unfolding understood everything
-record_ours lab wanted = ours _ _ (lit≤ tt, refl, refl, refl) record_means.unlisted
+record_ours lab wanted = ours _ _ (lit≤ tt, refl, refl, refl, refl) record_means.unlisted
 
 pub records_read : (old new : State) (lab : ℤ) (wanted : ℕ) (rows : List Row) → IsTyped old.now
     → Shown record_text (Int lab ∷ number wanted ∷ []) old new rows → rows ≡ records_shown lab wanted (tables_in old.now.trees)
@@ -71,9 +71,9 @@ pub entries_means : Means entries_text (by_key_query 20 (is_param 2 0 ∷ []) (c
 unfolding understood everything
 entries_means = record { read = (_, refl); command = refl; unlisted = refl; plain = (refl, refl) }
 
-pub entries_ours : (parent : ℤ) → IsOurs entries_text (Int parent ∷ [])
+pub entries_ours : (parent : ℤ) → IsOurs is_reading entries_text (Int parent ∷ [])
 unfolding understood everything
-entries_ours parent = ours _ _ (lit≤ tt, refl, refl, refl) entries_means.unlisted
+entries_ours parent = ours _ _ (lit≤ tt, refl, refl, refl, refl) entries_means.unlisted
 
 pub entries_read : (old new : State) (parent : ℤ) (rows : List Row) → IsTyped old.now → Shown entries_text (Int parent ∷ []) old new rows
     → rows ≡ entries_shown parent (tables_in old.now.trees)
@@ -93,9 +93,9 @@ pub signatures_means : Means signatures_text (by_key_query 22 (is_param 2 0 ∷ 
 unfolding understood everything
 signatures_means = record { read = (_, refl); command = refl; unlisted = refl; plain = (refl, refl) }
 
-pub signatures_ours : (parent : ℤ) → IsOurs signatures_text (Int parent ∷ [])
+pub signatures_ours : (parent : ℤ) → IsOurs is_reading signatures_text (Int parent ∷ [])
 unfolding understood everything
-signatures_ours parent = ours _ _ (lit≤ tt, refl, refl, refl) signatures_means.unlisted
+signatures_ours parent = ours _ _ (lit≤ tt, refl, refl, refl, refl) signatures_means.unlisted
 
 pub signatures_read : (old new : State) (parent : ℤ) (rows : List Row) → IsTyped old.now → Shown signatures_text (Int parent ∷ []) old new rows
     → rows ≡ signatures_shown parent (tables_in old.now.trees)

@@ -8,7 +8,7 @@ use Rattle.lab_store_tables.specs.Changes.{put_entry, put_signature}
 use Rattle.lab_store_tables.specs.Held.{IsTyped}
 use Rattle.lab_store_tables.specs.Family.{Entries, Signatures}
 use Rattle.lab_store_tables.proofs.FamilyWords.{values_of}
-use Rattle.lab_store_write.specs.Causes.{IsOurs}
+use Rattle.lab_store_write.specs.Causes.{is_writing, IsOurs}
 use Rattle.lab_store_write.proofs.Inserts.{adds, adds_ours}
 use Rattle.lab_store_write.proofs.Inside.{Wrote}
 
@@ -26,7 +26,7 @@ pub adds_entry : (one : EntryRow) (old new : State) (count : ℕ) → IsTyped ol
     → Wrote (put_entry one (tables_in old.now.trees)) new.now
 adds_entry = adds Entries
 
-pub add_entry_ours : (one : EntryRow) → IsOurs add_entry_text (entry_values one)
+pub add_entry_ours : (one : EntryRow) → IsOurs is_writing add_entry_text (entry_values one)
 add_entry_ours = adds_ours Entries
 
 -- ---- a row more of signatures
@@ -43,5 +43,5 @@ pub adds_signature : (one : SignatureRow) (old new : State) (count : ℕ) → Is
     → Wrote (put_signature one (tables_in old.now.trees)) new.now
 adds_signature = adds Signatures
 
-pub add_signature_ours : (one : SignatureRow) → IsOurs add_signature_text (signature_values one)
+pub add_signature_ours : (one : SignatureRow) → IsOurs is_writing add_signature_text (signature_values one)
 add_signature_ours = adds_ours Signatures

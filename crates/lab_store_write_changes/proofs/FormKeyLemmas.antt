@@ -13,7 +13,7 @@ use Rattle.lab_store_tables.specs.Held.{IsTyped}
 use Rattle.lab_store_tables.specs.Family.{Fields, Choices}
 use Rattle.lab_store_read.proofs.Texts.{Means, is_param}
 use Rattle.lab_store_read.proofs.Sorted.{and_true}
-use Rattle.lab_store_write.specs.Causes.{IsOurs}
+use Rattle.lab_store_write.specs.Causes.{is_reading, IsOurs}
 use Rattle.lab_store_write.proofs.Lookups.{by_key_query, rows_by_key}
 use Rattle.lab_store_write.proofs.Ours.{ours}
 use Rattle.lab_store_write_changes.specs.FieldsShown.{is_field_of, is_choice_of}
@@ -29,9 +29,9 @@ pub fields_means : Means fields_text (by_key_query 10 (is_param 2 0 ∷ []) (col
 unfolding understood everything
 fields_means = record { read = (_, refl); command = refl; unlisted = refl; plain = (refl, refl) }
 
-pub fields_ours : (parent : ℤ) → IsOurs fields_text (Int parent ∷ [])
+pub fields_ours : (parent : ℤ) → IsOurs is_reading fields_text (Int parent ∷ [])
 unfolding understood everything
-fields_ours parent = ours _ _ (lit≤ tt, refl, refl, refl) fields_means.unlisted
+fields_ours parent = ours _ _ (lit≤ tt, refl, refl, refl, refl) fields_means.unlisted
 
 pub fields_read : (old new : State) (parent : ℤ) (rows : List Row) → IsTyped old.now → Shown fields_text (Int parent ∷ []) old new rows
     → rows ≡ fields_shown parent (tables_in old.now.trees)
@@ -51,9 +51,9 @@ pub choices_means : Means choices_text (by_key_query 13 (is_param 2 0 ∷ []) (c
 unfolding understood everything
 choices_means = record { read = (_, refl); command = refl; unlisted = refl; plain = (refl, refl) }
 
-pub choices_ours : (parent : ℤ) → IsOurs choices_text (Int parent ∷ [])
+pub choices_ours : (parent : ℤ) → IsOurs is_reading choices_text (Int parent ∷ [])
 unfolding understood everything
-choices_ours parent = ours _ _ (lit≤ tt, refl, refl, refl) choices_means.unlisted
+choices_ours parent = ours _ _ (lit≤ tt, refl, refl, refl, refl) choices_means.unlisted
 
 pub choices_read : (old new : State) (parent : ℤ) (rows : List Row) → IsTyped old.now → Shown choices_text (Int parent ∷ []) old new rows
     → rows ≡ choices_shown parent (tables_in old.now.trees)

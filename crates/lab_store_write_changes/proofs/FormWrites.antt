@@ -8,7 +8,7 @@ use Rattle.lab_store_tables.specs.Changes.{put_form, put_field, put_choice}
 use Rattle.lab_store_tables.specs.Held.{IsTyped}
 use Rattle.lab_store_tables.specs.Family.{Forms, Fields, Choices}
 use Rattle.lab_store_tables.proofs.FamilyWords.{values_of}
-use Rattle.lab_store_write.specs.Causes.{IsOurs}
+use Rattle.lab_store_write.specs.Causes.{is_writing, IsOurs}
 use Rattle.lab_store_write.proofs.Inserts.{adds, adds_ours, ids}
 use Rattle.lab_store_write.proofs.Inside.{Wrote}
 
@@ -26,7 +26,7 @@ pub adds_form : (one : FormRow) (old new : State) (count : ℕ) → IsTyped old.
     → Wrote (put_form one (tables_in old.now.trees)) new.now
 adds_form = adds Forms
 
-pub add_form_ours : (one : FormRow) → IsOurs add_form_text (form_values one)
+pub add_form_ours : (one : FormRow) → IsOurs is_writing add_form_text (form_values one)
 add_form_ours = adds_ours Forms
 
 -- the id that the connection tells then
@@ -48,7 +48,7 @@ pub adds_field : (one : FieldRow) (old new : State) (count : ℕ) → IsTyped ol
     → Wrote (put_field one (tables_in old.now.trees)) new.now
 adds_field = adds Fields
 
-pub add_field_ours : (one : FieldRow) → IsOurs add_field_text (field_values one)
+pub add_field_ours : (one : FieldRow) → IsOurs is_writing add_field_text (field_values one)
 add_field_ours = adds_ours Fields
 
 -- the id that the connection tells then
@@ -70,5 +70,5 @@ pub adds_choice : (one : ChoiceRow) (old new : State) (count : ℕ) → IsTyped 
     → Wrote (put_choice one (tables_in old.now.trees)) new.now
 adds_choice = adds Choices
 
-pub add_choice_ours : (one : ChoiceRow) → IsOurs add_choice_text (choice_values one)
+pub add_choice_ours : (one : ChoiceRow) → IsOurs is_writing add_choice_text (choice_values one)
 add_choice_ours = adds_ours Choices

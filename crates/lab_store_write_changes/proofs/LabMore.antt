@@ -24,7 +24,7 @@ use Rattle.lab_store_tables.specs.Ready.{tables_of}
 use Rattle.lab_store_tables.specs.Family.{Labs}
 use Rattle.lab_store_tables.proofs.Tables.{held_if_stored, stored_with, rising_with}
 use Rattle.lab_store_write.specs.Calls.{Steps}
-use Rattle.lab_store_write.specs.Causes.{IsOurs}
+use Rattle.lab_store_write.specs.Causes.{is_writing, IsOurs}
 use Rattle.lab_store_write.proofs.Writes.{cast_int, cast_null, add_next, next_id}
 use Rattle.lab_store_write.proofs.Inside.{Wrote}
 use Rattle.lab_store_write.proofs.Ours.{ours}
@@ -48,9 +48,9 @@ add_lab_is = refl
 abbrev pub lab_given : Lab → Row
 lab_given lab = Text lab.code ∷ Text lab.name ∷ number lab.last ∷ number lab.strays ∷ []
 
-pub add_lab_ours : (lab : Lab) → IsOurs add_lab_text (lab_given lab)
+pub add_lab_ours : (lab : Lab) → IsOurs is_writing add_lab_text (lab_given lab)
 unfolding understood everything
-add_lab_ours lab = ours _ _ (lit≤ tt, refl, refl, refl) refl
+add_lab_ours lab = ours _ _ (lit≤ tt, refl, refl, refl, refl) refl
 
 -- the columns of the row but its id
 abbrev lab_tail : Lab → Row

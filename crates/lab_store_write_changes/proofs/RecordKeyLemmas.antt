@@ -16,7 +16,7 @@ use Rattle.lab_store_read.proofs.Texts.{Means, is_param}
 use Rattle.lab_store_read.proofs.Sorted.{equal_numbers, and_true}
 use Rattle.lab_store_write.specs.Calls.{Steps, Finds}
 use Rattle.lab_store_write.specs.Ids.{id_read}
-use Rattle.lab_store_write.specs.Causes.{IsOurs}
+use Rattle.lab_store_write.specs.Causes.{is_reading, IsOurs}
 use Rattle.lab_store_write.proofs.Inside.{steps_weaker}
 use Rattle.lab_store_write.proofs.Lookups.{by_key_query, rows_by_key, first_key}
 use Rattle.lab_store_write.proofs.Ours.{ours}
@@ -37,9 +37,9 @@ pub form_means : Means form_text (by_key_query 8 form_tests (col 1 0 ∷ [])) (c
 unfolding understood everything
 form_means = record { read = (_, refl); command = refl; unlisted = refl; plain = (refl, refl) }
 
-pub form_ours : (lab : ℤ) (code : List ℕ) (version : ℕ) → IsOurs form_text (Int lab ∷ Text code ∷ number version ∷ [])
+pub form_ours : (lab : ℤ) (code : List ℕ) (version : ℕ) → IsOurs is_reading form_text (Int lab ∷ Text code ∷ number version ∷ [])
 unfolding understood everything
-form_ours lab code version = ours _ _ (lit≤ tt, refl, refl, refl) form_means.unlisted
+form_ours lab code version = ours _ _ (lit≤ tt, refl, refl, refl, refl) form_means.unlisted
 
 pub forms_read : (old new : State) (lab : ℤ) (code : List ℕ) (version : ℕ) (rows : List Row) → IsTyped old.now
     → Shown form_text (Int lab ∷ Text code ∷ number version ∷ []) old new rows → rows ≡ forms_shown lab code version (tables_in old.now.trees)

@@ -11,7 +11,7 @@ use Rattle.lab_store_tables.specs.Changes.{put_record, put_version, set_current}
 use Rattle.lab_store_tables.specs.Held.{IsTyped}
 use Rattle.lab_store_tables.specs.Family.{Records, Versions}
 use Rattle.lab_store_tables.proofs.FamilyWords.{values_of}
-use Rattle.lab_store_write.specs.Causes.{IsOurs}
+use Rattle.lab_store_write.specs.Causes.{is_writing, IsOurs}
 use Rattle.lab_store_write.proofs.Inserts.{adds, adds_ours, ids}
 use Rattle.lab_store_write.proofs.Updates.{IsUpdate, given, by_id, sets}
 use Rattle.lab_store_write.proofs.Inside.{Wrote}
@@ -31,7 +31,7 @@ pub adds_record : (one : RecordRow) (old new : State) (count : ℕ) → IsTyped 
     → Wrote (put_record one (tables_in old.now.trees)) new.now
 adds_record = adds Records
 
-pub add_record_ours : (one : RecordRow) → IsOurs add_record_text (record_values one)
+pub add_record_ours : (one : RecordRow) → IsOurs is_writing add_record_text (record_values one)
 add_record_ours = adds_ours Records
 
 -- the id that the connection tells then
@@ -48,9 +48,9 @@ current_is : IsUpdate Records by_id (given 1 (codes "current" ∷ [])) current_t
 unfolding understood everything
 current_is = ((refl, refl), refl)
 
-pub current_ours : (id : ℤ) (version : ℕ) → IsOurs current_text (Int id ∷ number version ∷ [])
+pub current_ours : (id : ℤ) (version : ℕ) → IsOurs is_writing current_text (Int id ∷ number version ∷ [])
 unfolding understood everything
-current_ours id version = ours _ _ (lit≤ tt, refl, refl, refl) refl
+current_ours id version = ours _ _ (lit≤ tt, refl, refl, refl, refl) refl
 
 pub sets_current : (id : ℤ) (version : ℕ) (old new : State) (count : ℕ) → IsTyped old.now
     → Executes current_text (Int id ∷ number version ∷ []) old new (Ok count)
@@ -72,7 +72,7 @@ pub adds_version : (one : VersionRow) (old new : State) (count : ℕ) → IsType
     → Wrote (put_version one (tables_in old.now.trees)) new.now
 adds_version = adds Versions
 
-pub add_version_ours : (one : VersionRow) → IsOurs add_version_text (version_values one)
+pub add_version_ours : (one : VersionRow) → IsOurs is_writing add_version_text (version_values one)
 add_version_ours = adds_ours Versions
 
 -- the id that the connection tells then

@@ -34,7 +34,7 @@ use Rattle.lab_store_tables.specs.Family.{Records, Versions}
 use Rattle.lab_store_read.proofs.Texts.{Means, is_param}
 use Rattle.lab_store_read.proofs.Sorted.{equal_numbers, and_true}
 use Rattle.lab_store_write.specs.Calls.{Steps, Finds}
-use Rattle.lab_store_write.specs.Causes.{IsOurs}
+use Rattle.lab_store_write.specs.Causes.{is_reading, IsOurs}
 use Rattle.lab_store_write.proofs.Inside.{steps_weaker}
 use Rattle.lab_store_write.proofs.Ours.{ours}
 use Rattle.lab_store_write_changes.specs.VersionsShown.{current_of, version_in_record, ids_or_null, versions_shown, first_value}
@@ -204,9 +204,9 @@ pub current_means : Means current_text (beside_query current_tests) (codes "id" 
 unfolding understood everything
 current_means = record { read = (_, refl); command = refl; unlisted = refl; plain = (refl, refl) }
 
-pub current_ours : (lab : ℤ) (wanted : ℕ) → IsOurs current_text (Int lab ∷ number wanted ∷ [])
+pub current_ours : (lab : ℤ) (wanted : ℕ) → IsOurs is_reading current_text (Int lab ∷ number wanted ∷ [])
 unfolding understood everything
-current_ours lab wanted = ours _ _ (lit≤ tt, refl, refl, refl) current_means.unlisted
+current_ours lab wanted = ours _ _ (lit≤ tt, refl, refl, refl, refl) current_means.unlisted
 
 pub current_read : (old new : State) (lab : ℤ) (wanted : ℕ) (rows : List Row) → IsTyped old.now → Shown current_text (Int lab ∷ number wanted ∷ []) old new rows
     → rows ≡ versions_shown current_of lab wanted (tables_in old.now.trees)
@@ -224,9 +224,9 @@ pub version_means : Means version_text (beside_query version_tests) (codes "id" 
 unfolding understood everything
 version_means = record { read = (_, refl); command = refl; unlisted = refl; plain = (refl, refl) }
 
-pub version_ours : (lab : ℤ) (wanted version : ℕ) → IsOurs version_text (Int lab ∷ number wanted ∷ number version ∷ [])
+pub version_ours : (lab : ℤ) (wanted version : ℕ) → IsOurs is_reading version_text (Int lab ∷ number wanted ∷ number version ∷ [])
 unfolding understood everything
-version_ours lab wanted version = ours _ _ (lit≤ tt, refl, refl, refl) version_means.unlisted
+version_ours lab wanted version = ours _ _ (lit≤ tt, refl, refl, refl, refl) version_means.unlisted
 
 pub version_read : (old new : State) (lab : ℤ) (wanted version : ℕ) (rows : List Row) → IsTyped old.now
     → Shown version_text (Int lab ∷ number wanted ∷ number version ∷ []) old new rows → rows ≡ versions_shown (λ _. version) lab wanted (tables_in old.now.trees)

@@ -1,4 +1,4 @@
-use Rattle.std.proofs.Common.{inl, Err}
+use Rattle.std.proofs.Common.{inl, Err, refl}
 use Rattle.sqlite.specs.Held.{state}
 use Rattle.lab_store_tables.specs.Ready.{tables_of}
 use Rattle.lab_move_tables.proofs.OldReaders.{by_schema, may_end}
@@ -47,4 +47,7 @@ returns-in-Ok-clause-cause g c read begun clean =
 
 pub returns-in-Err-clause-cause : goal.returns-in-Err-clause-cause
 returns-in-Err-clause-cause g c read begun clean told =
-    inl (λ t file readable. c.in-Err.ensures.cause t (c.args.older, file) readable read (told_storage c.in-Err.fault c.store_fault.result c.store_fault.ensures told))
+    inl (
+      λ t file readable. c.in-Err.ensures.cause t (c.args.older, file) readable read (told_storage c.in-Err.fault c.store_fault.result c.store_fault.ensures told),
+      λ late opened. refl,
+    )

@@ -38,7 +38,7 @@ returns-in-Err-clause-finished g c = fails_then c.requires.at_rest c.in-Err.ensu
 
 pub returns-in-Ok-clause-cause : goal.returns-in-Ok-clause-cause
 returns-in-Ok-clause-cause g c clean ours late =
-    unnamed_by g.T.Store (g.D.Readable.state c.args.old.now) (g.D.Readable.state c.compare_counts.new.old) c.args.new.now c.compare_counts.new.new c.finish_with.new.new c.in-Ok.ensures.passes c.finish_with.result
+    unnamed_by g.T.Store (g.D.Readable.state c.args.old.now) (g.D.Readable.state c.compare_counts.new.old) c.args.new.now c.compare_counts.new.new c.finish_with.new.new c.in-Ok.ensures.passes c.finish_with.ensures.finished.once.clean c.finish_with.result
     (c.finish_with.ensures.cause late)
 
 pub returns-in-Err-clause-cause : goal.returns-in-Err-clause-cause

@@ -40,7 +40,7 @@ finish_compared-requires g c = record { at_rest = c.in-Ok.ensures.fills.at_rest 
 pub returns-in-Ok-clause-cause : goal.returns-in-Ok-clause-cause
 returns-in-Ok-clause-cause g c read begun clean =
     stops_behind g.D.Readable.state g.T.Store c.args.older c.args.codes.now c.args.old.now c.move_each.new.old c.finish_compared.new.old c.args.new.now c.move_each.new.new c.finish_compared.new.new
-    c.in-Ok.ensures.reads c.in-Ok.ensures.fills c.finish_compared.ensures.reads.passes c.finish_compared.result
+    c.in-Ok.ensures.reads c.in-Ok.ensures.fills c.finish_compared.ensures.reads.passes c.finish_compared.ensures.finished.once.clean c.finish_compared.result c.finish_compared.ensures.finished.rows
     (c.finish_compared.ensures.cause read (ours_filled c.args.codes.now c.in-Ok.ensures.fills begun) clean)
 
 pub returns-in-Err-clause-cause : goal.returns-in-Err-clause-cause

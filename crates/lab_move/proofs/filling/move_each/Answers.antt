@@ -55,5 +55,6 @@ returns-in_err-move_lab-clause-cause g c read begun clean =
     let within : place < length codes = omega (arith, c.loop-place-test.true) in
     let code = c.index-codes-place.result in
     stops_at g.D.Readable.state g.T.Store c.args.older codes c.args.old.now c.loop-place.old c.move_lab.new.old c.args.new.now c.loop-place.new c.move_lab.new.new (take place codes) (drop (place + 1) codes) code
-    (split_at codes place code code within c.index-codes-place.is) c.loop-place.invariant c.in_err-move_lab.field-0.0 (c.in_err-move_lab.ensures.cause read (ours_of c.loop-place.invariant begun) clean)
+    (split_at codes place code code within c.index-codes-place.is) c.loop-place.invariant c.in_err-move_lab.field-0.0 c.move_lab.ensures.reads.passes c.in_err-move_lab.ensures.carries.once.clean c.in_err-move_lab.ensures.carries.rows
+    (c.in_err-move_lab.ensures.cause read (ours_of c.loop-place.invariant begun) clean)
     c.from_residual.result c.from_residual.ensures.1

@@ -1,11 +1,13 @@
 use Rattle.std.proofs.Common.{rules}
 use Rattle.lab_store_write.specs.Causes.{FailsBy}
-use Rattle.lab_store_write.proofs.Failing.{passed, ran_badly}
+use Rattle.lab_store_write.proofs.Failing.{passed, ran_badly, still_on}
 use Rattle.lab_store_write.proofs.ids.insert.Goals as goal
 
 pub returns-clause-ran : goal.returns-clause-ran
 returns-clause-ran g c inside clean = (c.in_ok-run.field-0, c.in_ok-run.ensures.runs inside clean, search rules)
 
 pub returns-in_err-run-clause-failed : goal.returns-in_err-run-clause-failed
-returns-in_err-run-clause-failed g c ours inside clean =
-    passed (FailsBy g.W.Writable.state c.args.tx.now c.run.new.tx) (ran_badly g.W.Writable.state _ _ ours c.args.tx.now c.run.new.tx _ (c.in_err-run.ensures.runs inside clean)) c.from_residual.result c.from_residual.ensures.1
+returns-in_err-run-clause-failed g c ours inside clean typed =
+    let state = g.W.Writable.state in
+    let goes = still_on (state c.args.tx.now) (state c.run.new.tx) c.run.ensures.stays.survives inside clean typed in
+    passed (FailsBy state c.args.tx.now c.run.new.tx) (ran_badly state _ _ ours c.args.tx.now c.run.new.tx _ goes (c.in_err-run.ensures.runs inside clean)) c.from_residual.result c.from_residual.ensures.1

@@ -3,7 +3,7 @@ use Rattle.sqlite.specs.State.{HasCleanDisk}
 use Rattle.sqlite.specs.declared.error.Error.TheVariants.{QueryReturnedNoRows}
 use Rattle.lab_store_write.specs.Causes.{IsRun}
 use Rattle.lab_store_write.specs.Givers.{Knows}
-use Rattle.lab_store_write.proofs.Failing.{fails_here, fails_behind}
+use Rattle.lab_store_write.proofs.Failing.{fails_here, fails_behind, still_on}
 use Rattle.lab_store_write.proofs.Writers.{and_then, both, fails_so, then_fails, fails_after}
 use Rattle.lab_store_write.proofs.Added.{session_set}
 use Rattle.lab_store_write.proofs.sessions.set_session.Goals as goal
@@ -24,9 +24,11 @@ returns-then-count-eq0 g c =
     let did = c.in_ok-count.ensures in
     let early : HasCleanDisk new → HasCleanDisk mid = λ clean. omega (arith, did.writes.stays.survives.clean) in
     fails_after (both found did.writes)
-    (λ inside clean typed. inr (fails_behind state c.args.tx.now c.person_id_by.new.tx c.update_session.new.tx QueryReturnedNoRows found.stays.survives
-    (fails_here state c.person_id_by.new.tx c.update_session.new.tx QueryReturnedNoRows
-    (inr (record { told = refl; vain = inl (subst (IsRun mid new) c.if-count-eq0.true (did.ran (found.made inside (early clean)).inside clean)) })))))
+    (λ inside clean typed.
+    let one = found.made inside (early clean) in
+    inr (fails_behind state c.args.tx.now c.person_id_by.new.tx c.update_session.new.tx QueryReturnedNoRows found.stays.survives
+    (fails_here state c.person_id_by.new.tx c.update_session.new.tx QueryReturnedNoRows (still_on mid new did.writes.stays.survives one.inside clean (one.made typed).0)
+    (inr (record { told = refl; vain = inl (subst (IsRun mid new) c.if-count-eq0.true (did.ran one.inside clean)) })))))
     (Err QueryReturnedNoRows) refl
 
 pub returns : goal.returns
