@@ -17,21 +17,17 @@ from served import PATIENCE  # noqa: E402
 
 SHIM = r"""
 #define _GNU_SOURCE
-#include <dlfcn.h>
 #include <fcntl.h>
 #include <stdint.h>
 #include <stdlib.h>
 #include <string.h>
+#include <sys/syscall.h>
 #include <time.h>
 #include <unistd.h>
 static int ticks = -1, left = -1, drawn = 0;
 static struct { int64_t seconds; uint64_t word; } tick;
 int clock_gettime(clockid_t clock, struct timespec *now) {
-    static int (*real)(clockid_t, struct timespec *);
-    if (clock != CLOCK_REALTIME) {
-        if (!real) real = dlsym(RTLD_NEXT, "clock_gettime");
-        return real(clock, now);
-    }
+    if (clock != CLOCK_REALTIME) return syscall(SYS_clock_gettime, clock, now);
     if (ticks < 0) ticks = open(getenv("TICKS"), O_RDONLY | O_CLOEXEC);
     if (read(ticks, &tick, sizeof tick) != sizeof tick) return -1;
     now->tv_sec = tick.seconds;
