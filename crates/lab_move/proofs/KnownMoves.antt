@@ -1,6 +1,6 @@
 -- Small instances of the definitions of a move, so that none is empty: where it stops, how it ends, what lasts, and why it tells of
 -- the store; and a body that always tells of the store has no cause for it.
-use Rattle.std.proofs.Common.{◌≡◌, inl, inr, ℕ, ◌-◌, ◌<◌, ◌^◌, pos, true, false, List, [], ◌∷◌, map, None, Ok, Err, IsTrue, refl, sym, ap, subst, ◌∙◌, arith}
+use Rattle.std.proofs.Common.{◌≡◌, inl, inr, ℕ, ◌-◌, ◌<◌, ◌^◌, pos, true, false, List, [], ◌∷◌, length, map, None, Ok, Err, IsTrue, refl, sym, ap, subst, ◌∙◌, arith}
 use Rattle.std.specs.Prelude.{codes}
 use Rattle.std.proofs.lemmas.List.Elements.{All-nil}
 use Rattle.sqlite_trees.specs.declared.store.Store.{Ghosts}
@@ -14,7 +14,7 @@ use Rattle.sqlite.specs.declared.error.ErrorCode.TheVariants as code
 use Rattle.lab_store_tables.specs.Schema.{lab_schema}
 use Rattle.lab_store_tables.specs.Family.{Name, Desk, empty_tables, id_of, rows, tables_in}
 use Rattle.lab_store_tables.specs.Meaning.{meaning}
-use Rattle.lab_store_tables.specs.Ready.{IsKept, tables_of}
+use Rattle.lab_store_tables.specs.Ready.{IsAtRest, IsKept, tables_of}
 use Rattle.lab_store_tables.specs.Rows.{Tables}
 use Rattle.lab_store_tables.proofs.FamilyWords.{stored_row, tree_of, trees_of}
 use Rattle.lab_store_tables.proofs.KnownFile.{desk}
@@ -25,8 +25,11 @@ use Rattle.lab_store_files.specs.NewFiles.{IsBlank, no_schema}
 use Rattle.lab_store_files.specs.Schemas.{has_number, is_taken}
 use Rattle.lab_move_tables.specs.declared.older.Older.TheVariants.{Two}
 use Rattle.lab_move_tables.proofs.KnownOldFile.{lifted}
+use Rattle.lab_move_tables.proofs.OldReaders.{none_read}
+use Rattle.lab_move_tables.specs.Standing.{StandsBy}
 use Rattle.lab_move_tables.specs.declared.older.Older.{Older}
-use Rattle.lab_move_write.specs.Causes.{IsNamingRefused}
+use Rattle.lab_store_write.proofs.Failing.{unmoved}
+use Rattle.lab_move_write.specs.Causes.{EndsMaking, IsNamingRefused, making_texts}
 use Rattle.lab_move_read.specs.Laboratories.{codes_of}
 use Rattle.lab_move.specs.declared.faults.MoveFault.TheVariants.{File, NotSound}
 use Rattle.lab_move.specs.Causes.{CountsDiffer, IsMoveCaused, IsMoveUnfinished, IsSchemaUnnamed, IsUnanswered, StopsAtEnd, StopsAtLab}
@@ -34,6 +37,7 @@ use Rattle.lab_move.specs.Counting.{AreCounts, cell, counts_row, counts_text}
 use Rattle.lab_move.specs.Moving.{AreCounted, IsFirstUnsound, IsSoundIn, Lasts}
 use Rattle.lab_move.specs.OldFiles.{StandsFor}
 use Rattle.lab_move.specs.Owed.{AnswersOldOwed, MovesAsOwed, StopsAt}
+use Rattle.lab_move.proofs.EachLab.{HasMoved, none_moved}
 use Rattle.lab_move.proofs.FirstUnsound.{first_is_least}
 use Rattle.lab_move.proofs.MoveOwed.{filled_moves, refused_moves}
 use Rattle.lab_move.proofs.OldOwed.{unnamed_answered}
@@ -155,13 +159,70 @@ module _ {S : Type 0} (g : Ghosts S) (held : Held S) (before : State) where
       unlike : no_schema ≡ lab_schema → ⊥
       unlike same = let wrong = ap (λ (one : Schema). one.tables) same in cc
 
--- a disk that fails under the statement that names the schema is told of
-pub known_unnamed : {S : Type 0} (g : Ghosts S) (asked last new : Held S) → Fails (state g (record asked { in_transaction = true })) (state g last) ⊥ (SqliteFailure code.SystemIoFailure)
-    → IsRolledBack (state g (record asked { in_transaction = true })) (state g last) → Survives (state g (record asked { in_transaction = true })) (state g last) (λ _. ⊥)
-    → Survives (state g last) (state g new) (λ _. ⊥) → IsRolledBack (state g last) (state g new) → IsNamingRefused g asked new
+-- a disk that fails under the statement that names the schema is told of, and then the schema is unnamed
+module _ {S : Type 0} (g : Ghosts S) (asked last new : Held S)
+    (fails : Fails (state g (record asked { in_transaction = true })) (state g last) ⊥ (SqliteFailure code.SystemIoFailure))
+    (back : IsRolledBack (state g (record asked { in_transaction = true })) (state g last))
+    (survives : Survives (state g (record asked { in_transaction = true })) (state g last) (λ _. ⊥))
+    (ended : Survives (state g last) (state g new) (λ _. ⊥)) (undone : IsRolledBack (state g last) (state g new)) where
+  pub known_unnamed : IsNamingRefused g asked new
+  unfolding IsNotRun ExecutesIn
+  known_unnamed =
+      record { last = last; error = SqliteFailure code.SystemIoFailure; told = refl; refused = inl (inl (inr fails), inr back); survives = survives; ended = ended; undone = undone }
+
+  pub known_schema : IsSchemaUnnamed g asked new
+  known_schema = record { asked = asked; reads = none_read (λ t. tt); clean = λ late. early late; why = inr known_unnamed }
+    where
+      early : HasCleanDisk (state g new) → HasCleanDisk (state g (record asked { in_transaction = true }))
+      early late = omega (arith, survives.clean, ended.clean, late)
+
+-- a disk that fails under the first statement that makes the tables is told of
+pub known_making : {T : Type 0} (state : T → State) (old new : T) → IsTrue (state old).in_transaction → HasCleanDisk (state old)
+    → Fails (state old) (state new) ⊥ (SqliteFailure code.SystemIoFailure) → IsRolledBack (state old) (state new) → Survives (state old) (state new) (λ _. ⊥)
+    → EndsMaking IsBlank state old new (SqliteFailure code.SystemIoFailure)
 unfolding IsNotRun ExecutesIn
-known_unnamed g asked last new fails back survives ended undone =
-    record { last = last; error = SqliteFailure code.SystemIoFailure; told = refl; refused = inl (inl (inr fails), inr back); survives = survives; ended = ended; undone = undone }
+known_making state old new inside clean fails back survives = record {
+  last = old;
+  led = unmoved (state old);
+  inside = inside;
+  clean = clean;
+  survives = survives;
+  at = 0;
+  within = (let texts : length making_texts ≡ 13 = refl in omega (arith, texts));
+  made = λ was. record { schema_is = was; empty = tt };
+  refused = inl (inl (inr fails), inr back);
+}
+
+-- an old file that was shut stops the move at its first laboratory, and at the end where it has none
+module _ {D S : Type 0} (seen : D → State) (g : Ghosts S) (older : Older) (before : D) (fresh : Held S) (rest : IsAtRest (state g fresh)) (shut : (seen before).is_open ≡ false) where
+  none : HasMoved (StandsBy older) [] (seen before) (seen before) (state g fresh) (state g fresh)
+  none = none_moved (seen before) (state g fresh) rest
+
+  pub known_stops_at_lab : (code : List ℕ) → StopsAtLab seen g older (code ∷ []) before before fresh fresh
+  known_stops_at_lab code = record {
+    done = [];
+    code = code;
+    rest = [];
+    split = refl;
+    now = before;
+    last = fresh;
+    placed = record { read = none.reads; moved = none.fills };
+    passes = none.reads.passes;
+    clean = λ late. late;
+    left = λ clean opened. refl;
+    why = inl (λ t stands whole. inr (inl shut));
+  }
+
+  pub known_stops_at_end : StopsAtEnd seen g older [] before before fresh fresh
+  known_stops_at_end = record {
+    now = before;
+    last = fresh;
+    placed = record { read = none.reads; moved = none.fills };
+    passes = none.reads.passes;
+    clean = λ late. late;
+    left = λ clean opened. refl;
+    why = inl (inl (inl (inr (inl shut))));
+  }
 
 -- no state between is shut or has another limit, where both files were open before and no fault went unseen
 module _ {D S : Type 0} (seen : D → State) (g : Ghosts S) (older : Older) (codes : List (List ℕ)) (before after : D) (fresh new : Held S) (clean : HasCleanDisk (seen after)) (late : HasCleanDisk (state g new))

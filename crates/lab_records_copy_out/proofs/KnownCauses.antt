@@ -48,9 +48,11 @@ read start = record {
   quiet = λ honest reached live held left. left;
   safe = λ honest reached live safe. safe;
   reached = λ honest reached. reached;
-  shuts = λ honest reached. record { counts = omega arith; cause = λ live. inl live };
   passes = record { honest = λ one. one; live = λ honest one. one; refusing = λ one. one };
 }
+
+shuts_before : (start : Meaning) → Shuts (world_at start 0) (world_at start 0)
+shuts_before start = record { counts = omega arith; cause = λ live. inl live }
 
 passes : (start : Meaning) → Passes (world_at start 0) (world_at start 1)
 passes start = record { honest = λ _. tt; live = λ _ _. tt; refusing = λ _. tt }
@@ -66,6 +68,7 @@ known_one start code from number last first within = record {
   within = within;
   mid = 0;
   read = read start;
+  shuts_before = λ honest reached. shuts_before start;
   passes = passes start;
   shuts = λ honest reached. shuts start;
   refused = (tt, λ live. live);
@@ -78,6 +81,7 @@ pub known_copy : (start : Meaning) (code : List ℕ) (from number last to : ℕ)
 known_copy start code from number last to first within most = inr (record {
   mid = 0;
   read = read start;
+  shuts_before = λ honest reached. shuts_before start;
   named = code;
   its = λ honest reached. refl;
   last = last;

@@ -1,10 +1,7 @@
 -- A keeper that is read twice, or not at all, is as it was but for what was read.
-use Rattle.std.proofs.Common.{◌⊎◌, inl, inr, ℕ, ◌≤◌, refl, ◌∙◌, arith}
-use Rattle.lab_records_keeper.specs.Worlds.{World, Given, HasFaulted}
+use Rattle.std.proofs.Common.{◌≤◌, ℕ, inl, inr, refl, ◌∙◌, arith}
+use Rattle.lab_records_keeper.specs.Worlds.{World, Given, HasFaulted, Shuts}
 use Rattle.lab_records_copy_out.specs.Resting.{IsOnlyRead}
-
-since : (first mid last : ℕ) → first ≤ mid → HasFaulted mid last → HasFaulted first last
-since first mid last later faulted = omega (arith, later, faulted)
 
 pub read_none : {S : Type 0} (world : S → World) (rests : S → S → Type 0) (it : S) →
     rests it it → IsOnlyRead world rests it it
@@ -14,7 +11,6 @@ read_none world rests it still = record {
   quiet = λ honest reached live held left. left;
   safe = λ honest reached live safe. safe;
   reached = λ honest reached. reached;
-  shuts = λ honest reached. record { counts = omega arith; cause = λ live. inl live };
   passes = record { honest = λ is. is; live = λ honest is. is; refusing = λ is. is };
 }
 
@@ -45,17 +41,6 @@ read_on world rests first next last on alive one other = record {
   reached = λ honest reached.
       let earlier = other.passes.honest honest in
       other.reached honest (one.reached earlier reached);
-  shuts = λ honest reached.
-      let earlier = other.passes.honest honest in
-      let early = one.shuts earlier reached in
-      let late = other.shuts honest (one.reached earlier reached) in
-      record {
-        counts = omega (arith, early.counts, late.counts);
-        cause = λ live. elim (late.cause (alive earlier reached live)) [
-          | inl on ↦ inl on
-          | inr faulted ↦ inr (since (world first).faults (world next).faults (world last).faults early.counts faulted)
-        ];
-      };
   passes = record {
     honest = λ honest. one.passes.honest (other.passes.honest honest);
     live = λ honest live.
@@ -63,3 +48,36 @@ read_on world rests first next last on alive one other = record {
     refusing = λ refuses. one.passes.refusing (other.passes.refusing refuses);
   };
 }
+
+-- ---- a fault alone shuts it
+
+pub shuts_none : (world : World) → Given world world (Shuts world world)
+shuts_none world = λ honest reached. record { counts = omega arith; cause = λ live. inl live }
+
+faulted_later : (first next last : ℕ) → HasFaulted first next → next ≤ last → HasFaulted first last
+faulted_later first next last faulted later = omega (arith, faulted, later)
+
+faulted_since : (first next last : ℕ) → first ≤ next → HasFaulted next last → HasFaulted first last
+faulted_since first next last later faulted = omega (arith, later, faulted)
+
+pub shuts_on : {S : Type 0} (world : S → World) (rests : S → S → Type 0) (first next last : S) →
+    IsOnlyRead world rests first next → IsOnlyRead world rests next last →
+    Given (world first) (world next) (Shuts (world first) (world next)) →
+    Given (world next) (world last) (Shuts (world next) (world last)) →
+    Given (world first) (world last) (Shuts (world first) (world last))
+shuts_on world rests first next last one other early late = λ honest reached.
+    let earlier = other.passes.honest honest in
+    let before = early earlier reached in
+    let after = late honest (one.reached earlier reached) in
+    record {
+      counts = omega (arith, before.counts, after.counts);
+      cause = λ live. elim (before.cause live) [
+        | inl still ↦ elim (after.cause still) [
+          | inl yet ↦ inl yet
+          | inr faulted ↦ inr (faulted_since (world first).faults (world next).faults
+          (world last).faults before.counts faulted)
+        ]
+        | inr faulted ↦ inr (faulted_later (world first).faults (world next).faults
+        (world last).faults faulted after.counts)
+      ];
+    }

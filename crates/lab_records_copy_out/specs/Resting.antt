@@ -1,7 +1,7 @@
 -- What reading leaves of a keeper: all laboratories mean what they meant, and the rows are as they
 -- were (ISO/IEC 17025:2017, 8.4.2, "records shall be readily available": to show them alters
 -- none).
-use Rattle.lab_records_keeper.specs.Worlds.{World, Given, Leaves, Passes, Quiet, Shuts, StaysSafe}
+use Rattle.lab_records_keeper.specs.Worlds.{World, Given, Leaves, Passes, Quiet, StaysSafe}
 
 -- a keeper is as it was but for what it read
 pub record IsOnlyRead {S : Type 0} (world : S → World) (rests : S → S → Type 0) (old new : S)
@@ -14,6 +14,4 @@ pub record IsOnlyRead {S : Type 0} (world : S → World) (rests : S → S → Ty
   pub safe : Given (world old) (world new) (StaysSafe (world old) (world new))
   -- the tables are well kept, and the keeper passes on what every call passes on
   pub reached : Given (world old) (world new) (world new).is_reached
-  -- it is live where it was live, or its store had a fault in between; and no fault is forgotten
-  pub shuts : Given (world old) (world new) (Shuts (world old) (world new))
   pub passes : Passes (world old) (world new)

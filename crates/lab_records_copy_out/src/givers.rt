@@ -2,7 +2,7 @@
 
 ghost use Rattle.std.specs.Prelude.{◌≡◌, ◌≤◌, ℕ, List, IfErr, OnOk};
 ghost use Rattle.lab_copy_rows.specs.Outs.{Sends, counted_all};
-ghost use Rattle.lab_records_keeper.specs.Worlds.{Given};
+ghost use Rattle.lab_records_keeper.specs.Worlds.{Given, Shuts};
 ghost use Rattle.lab_forms_texts.specs.Ordinals.{last_ordinal};
 ghost use Rattle.lab_copy_rows.specs.Csv.{csv_text};
 ghost use Rattle.lab_records_copy_out.specs.Faults.{CopyFaultFits};
@@ -59,7 +59,9 @@ pub trait RecordGiver<S: Keeper> {
         ensures lives { (S.world keeper.old).is_live →
             Given (S.world keeper.old) (S.world keeper.new)
             (OnOk result (S.world keeper.new).is_live) }
-        ensures read { IsOnlyRead S.world S.rests keeper.old keeper.new };
+        ensures read { IsOnlyRead S.world S.rests keeper.old keeper.new }
+        ensures shuts { Given (S.world keeper.old) (S.world keeper.new)
+            (Shuts (S.world keeper.old) (S.world keeper.new)) };
 }
 
 /// Reads each record whole, and then writes its rows: a way for every keeper.

@@ -4,7 +4,7 @@ ghost use Rattle.std.specs.Prelude.{◌≡◌, ◌≤◌, None, IfOk, IfErr, OnO
 ghost use Rattle.lab_records_copies.specs.CopyLines.{copy_line};
 ghost use Rattle.lab_records_kept.specs.declared.needs.RecordWanted.TheVariants.{Numbered};
 ghost use Rattle.lab_records_kept.specs.Parts.{part_of};
-ghost use Rattle.lab_records_keeper.specs.Worlds.{Given, KeeperFaultFits, Lives};
+ghost use Rattle.lab_records_keeper.specs.Worlds.{Given, KeeperFaultFits, Lives, Shuts};
 ghost use Rattle.lab_forms_texts.specs.Ordinals.{last_ordinal, ordinal_of};
 ghost use Rattle.lab_records_copy_out.specs.Resting.{IsOnlyRead};
 ghost use Rattle.lab_records_copy_out.specs.Walks.{desk_order, last_walked, record_at, record_need};
@@ -29,6 +29,8 @@ pub(crate) fn head_of<S: Keeper>(
     ensures cause { IfErr result (KeeperFaultFits
         (S.refuses_load keeper.old keeper.new lab.now (record_need None))) }
     ensures read { IsOnlyRead S.world S.rests keeper.old keeper.new }
+    ensures shuts { Given (S.world keeper.old) (S.world keeper.new)
+        (Shuts (S.world keeper.old) (S.world keeper.new)) }
 {
     let need = Need {
         token: None,
@@ -61,6 +63,8 @@ pub(crate) fn read_record<S: Keeper>(
     ensures cause { IfErr result (KeeperFaultFits (S.refuses_load keeper.old keeper.new lab.now
         (record_need (option_map (λ n. Numbered n) (ordinal_of number))))) }
     ensures read { IsOnlyRead S.world S.rests keeper.old keeper.new }
+    ensures shuts { Given (S.world keeper.old) (S.world keeper.new)
+        (Shuts (S.world keeper.old) (S.world keeper.new)) }
 {
     let need = need_of(number);
     let loaded = keeper.load(lab, &need);

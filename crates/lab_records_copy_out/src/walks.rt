@@ -2,7 +2,7 @@
 
 ghost use Rattle.std.specs.Prelude.{◌≡◌, ◌≤◌, None, Err, IsSome, IfErr, MatchOption, OnOk};
 ghost use Rattle.lab_copy_rows.specs.Outs.{Sends};
-ghost use Rattle.lab_records_keeper.specs.Worlds.{Given, Lives};
+ghost use Rattle.lab_records_keeper.specs.Worlds.{Given, Lives, Shuts};
 ghost use Rattle.lab_forms_texts.specs.Ordinals.{last_ordinal};
 ghost use Rattle.lab_records_copy_out.specs.Causes.{RefusesCopy};
 ghost use Rattle.lab_records_copy_out.specs.Faults.{CopyFaultFits, OnTold};
@@ -106,6 +106,8 @@ fn copy_under<S: Keeper, G: RecordGiver<S>, W: Write, P: Progress>(
         Given (S.world keeper.old) (S.world keeper.new)
         (OnOk result (S.world keeper.new).is_live) }
     ensures read { IsOnlyRead S.world S.rests keeper.old keeper.new }
+    ensures shuts { Given (S.world keeper.old) (S.world keeper.new)
+        (Shuts (S.world keeper.old) (S.world keeper.new)) }
 {
     let mut out = CopyOut::start(alloc, writer, &line)?;
     giver.give_records(

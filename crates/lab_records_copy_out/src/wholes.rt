@@ -4,7 +4,7 @@
 ghost use Rattle.std.specs.Prelude.{◌≡◌, ◌≤◌, [], ◌∷◌, IfErr, OnOk, option_map, option_to_list};
 ghost use Rattle.lab_records_kept.specs.declared.needs.RecordWanted.TheVariants.{Numbered};
 ghost use Rattle.lab_copy_rows.specs.Outs.{Sends, counted_all};
-ghost use Rattle.lab_records_keeper.specs.Worlds.{Given, Lives};
+ghost use Rattle.lab_records_keeper.specs.Worlds.{Given, Lives, Shuts};
 ghost use Rattle.lab_forms_texts.specs.Ordinals.{last_ordinal, ordinal_of};
 ghost use Rattle.lab_copy_rows.specs.Csv.{csv_text};
 ghost use Rattle.lab_records_copy_out.specs.Causes.{RefusesOne};
@@ -57,6 +57,8 @@ pub(crate) fn give_wholes<S: Keeper, W: Write, P: Progress>(
         Given (S.world keeper.old) (S.world keeper.new)
         (OnOk result (S.world keeper.new).is_live) }
     ensures read { IsOnlyRead S.world S.rests keeper.old keeper.new }
+    ensures shuts { Given (S.world keeper.old) (S.world keeper.new)
+        (Shuts (S.world keeper.old) (S.world keeper.new)) }
 {
     let first = from.get();
     let end = last + 1;
@@ -94,6 +96,8 @@ fn give_at<S: Keeper, W: Write>(
     ensures lives { Given (S.world keeper.old) (S.world keeper.new)
         (OnOk result (Lives (S.world keeper.old) (S.world keeper.new))) }
     ensures read { IsOnlyRead S.world S.rests keeper.old keeper.new }
+    ensures shuts { Given (S.world keeper.old) (S.world keeper.new)
+        (Shuts (S.world keeper.old) (S.world keeper.new)) }
 {
     match read_record(keeper, lab, number) {
         Ok(Some(kept)) => give_whole(alloc, lab, kept, out, writer),

@@ -20,6 +20,5 @@ module _ {S : Type 0} (g : Ghosts S) (stays : (s : S) → IsTrue (g.view s).is_o
     quiet = λ clean ready. quiet_by (state g old) (state g new) passes clean ready;
     safe = λ clean ready. safe_by (state g old) (state g new) passes clean ready;
     reached = λ clean ready. passes.ready ready;
-    shuts = λ clean ready. record { counts = passes.shuts.counts; cause = passes.shuts.cause clean };
     passes = world_passes (state g old) (state g new) passes;
   }

@@ -5,7 +5,7 @@ ghost use Rattle.sqlite.specs.Held.{state};
 ghost use Rattle.lab_copy_rows.specs.Outs.{Sends, counted_all};
 ghost use Rattle.lab_forms_texts.specs.Ordinals.{last_ordinal};
 ghost use Rattle.lab_records_kept.specs.Parts.{part_of};
-ghost use Rattle.lab_records_keeper.specs.Worlds.{Given, Lives};
+ghost use Rattle.lab_records_keeper.specs.Worlds.{Given, Lives, Shuts};
 ghost use Rattle.lab_copy_rows.specs.Csv.{csv_text};
 ghost use Rattle.lab_store.specs.StoreWorlds.{store_rests, store_world};
 ghost use Rattle.lab_store_read.specs.Causes.{HasItsCause};
@@ -146,6 +146,8 @@ impl<S: Alter> Store<S> {
         ensures cause { CopyHasItsCause (λ t. HasRange t lab.now from last)
             (state S.Store self.old) (state S.Store self.new) result }
         ensures read { IsOnlyRead (store_world S.Store) (store_rests S.Store) self.old self.new }
+        ensures shuts { Given (store_world S.Store self.old) (store_world S.Store self.new)
+            (Shuts (store_world S.Store self.old) (store_world S.Store self.new)) }
     {
         self.counted = None;
         give_records_at(

@@ -4,6 +4,7 @@ use Rattle.std.specs.Io.KnownBytes.{Appends}
 use Rattle.std.proofs.lemmas.Result.{err_from_is_err_and}
 use Rattle.lab_copy_rows.specs.Outs.{AppendsFront}
 use Rattle.lab_records_copy_out.proofs.OutLemmas.{ended}
+use Rattle.lab_records_copy_out.proofs.ReadLemmas.{shuts_none}
 use Rattle.lab_records_copy_out.proofs.TextLemmas.{cut_at_end, cut_at_start, cut_in_records, went_whole}
 use Rattle.lab_records_copy_out.proofs.walks.copy_under.Goals as goal
 
@@ -38,3 +39,6 @@ returns-clause-text g c = λ live few honest reached.
     (c.in_ok-give_records.ensures.text live honest reached)
     (subst (Appends (g.W.Write.contents c.give_records.new.writer)
     (g.W.Write.contents c.finish.new.writer)) end c.in_ok-finish.ensures.text)
+
+pub returns-in_err-out-clause-shuts : goal.returns-in_err-out-clause-shuts
+returns-in_err-out-clause-shuts g c = shuts_none (g.S.Keeper.world c.args.keeper.now)

@@ -6,7 +6,7 @@ use Rattle.lab_records_copy_out.specs.Walks.{numbers_between, record_rows, walke
 use Rattle.lab_records_copy_out.proofs.FaultLemmas.{fits_as}
 use Rattle.lab_records_copy_out.proofs.HeadLemmas.{from_one}
 use Rattle.lab_records_copy_out.proofs.OutLemmas.{given_rows, none_given, record_given}
-use Rattle.lab_records_copy_out.proofs.ReadLemmas.{read_none, read_on}
+use Rattle.lab_records_copy_out.proofs.ReadLemmas.{read_none, read_on, shuts_none, shuts_on}
 use Rattle.lab_records_copy_out.proofs.TextLemmas.{none_walked, records_text, walk_cut, walk_more}
 use Rattle.lab_records_copy_out.proofs.wholes.give_wholes.Goals as goal
 
@@ -24,6 +24,7 @@ loop-number-init g c = record {
   few = omega (arith, c.get-first.ensures.value);
   read = read_none g.S.Keeper.world g.S.Keeper.rests c.args.keeper.now
       (g.met.S.Keeper.still c.args.keeper.now);
+  shuts = shuts_none (g.S.Keeper.world c.args.keeper.now);
   alive = λ honest reached live. live;
   text = λ live honest reached. none_walked c.args.lab.now
       ((g.S.Keeper.world c.args.keeper.now).meaning c.args.lab.now) c.args.from
@@ -45,6 +46,9 @@ loop-number-preserved g c =
           c.loop-number.keeper c.give_at.new.keeper
           (g.met.S.Keeper.rests_on c.args.keeper.now c.loop-number.keeper
           c.give_at.new.keeper) so.alive so.read gave;
+      shuts = shuts_on g.S.Keeper.world g.S.Keeper.rests c.args.keeper.now
+          c.loop-number.keeper c.give_at.new.keeper so.read gave so.shuts
+          c.give_at.ensures.shuts;
       alive = λ honest reached live.
           (c.in_ok-give_at.ensures.lives honest
           (so.read.reached (gave.passes.honest honest) reached)).1;
@@ -91,6 +95,12 @@ returns-in_err-give_at-clause-read g c =
     (g.met.S.Keeper.rests_on c.args.keeper.now c.loop-number.keeper c.give_at.new.keeper)
     so.alive so.read c.give_at.ensures.read
 
+pub returns-in_err-give_at-clause-shuts : goal.returns-in_err-give_at-clause-shuts
+returns-in_err-give_at-clause-shuts g c =
+    let so = c.loop-number.invariant in
+    shuts_on g.S.Keeper.world g.S.Keeper.rests c.args.keeper.now c.loop-number.keeper
+    c.give_at.new.keeper so.read c.give_at.ensures.read so.shuts c.give_at.ensures.shuts
+
 pub returns-clause-text : goal.returns-clause-text
 returns-clause-text g c = λ live honest reached.
     let so = c.loop-number.invariant in
@@ -116,3 +126,6 @@ returns-clause-lives g c = λ live honest reached.
 
 pub returns-clause-read : goal.returns-clause-read
 returns-clause-read g c = c.loop-number.invariant.read
+
+pub returns-clause-shuts : goal.returns-clause-shuts
+returns-clause-shuts g c = c.loop-number.invariant.shuts

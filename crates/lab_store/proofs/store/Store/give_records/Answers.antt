@@ -12,5 +12,10 @@ returns-clause-counts g c =
 pub returns-clause-cause : goal.returns-clause-cause
 returns-clause-cause g c = rw (← c.self.view_is) c.give_records_at.ensures.cause
 
+pub returns-clause-shuts : goal.returns-clause-shuts
+returns-clause-shuts g c =
+    let shut = c.give_records_at.ensures.passes.shuts in
+    rw (← c.self.view_is) (λ clean ready. record { counts = shut.counts; cause = shut.cause clean })
+
 pub invariant_of-self : goal.invariant_of-self
 invariant_of-self g c = record { at_rest = c.give_records_at.ensures.passes.at_rest c.self.invariant.at_rest; right = λ _ _ _. tt; opened = λ _. tt }
