@@ -9,7 +9,7 @@ use sqlite_schema::names::same_name;
 use sqlite_schema::schema::{Reference, Table};
 use sqlite_value::value::Bytes;
 
-/// Whether the table's column `id` is its key, by which SQLite numbers its rows.
+/// Whether the table's column `id` is its key, with which SQLite numbers its rows.
 pub(crate) fn has_id(table: &Table) -> bool
     ensures { result ≡ has_id table.now }
 {

@@ -33,14 +33,14 @@ impl MoveFault {
         }
     }
 
-    /// The number by which the fault is known.
+    /// The number of the fault.
     pub fn number(&self) -> Option<u32>
         ensures { result ≡ Some (move_fault_entry self.now).number }
     {
         self.entry().0
     }
 
-    /// The word by which the fault is known.
+    /// The word that names the fault.
     pub fn word(&self) -> &'static str
         ensures { result.now ≡ (move_fault_entry self.now).word }
     {
@@ -59,7 +59,7 @@ impl fmt::Display for MoveFault {
     }
 }
 
-/// What a fault of reading or writing rows is told as.
+/// The fault of a move that a fault of reading or writing rows becomes.
 pub(crate) fn store_fault(fault: ReadFault) -> FileFault
     ensures { result ≡ read_told fault }
 {

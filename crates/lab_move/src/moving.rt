@@ -36,8 +36,8 @@ use lab_move_write::{MoveProgress, make_tables};
 use sqlite::{Alter, Connection};
 use std::alloc::Global;
 
-/// Law: a file that was left while it was being filled is none in which laboratories are kept, and
-/// neither is an empty one: `open` of `lab_store_files` says so, or that the store refused.
+/// Law: a file that was left while it was being filled isn't one in which laboratories are kept, and
+/// an empty one isn't either: `open` of `lab_store_files` returns that, or that the store refused.
 pub fn an_unfinished_file_is_refused<S: Alter>()
     ensures filling { (db : Database) → IsBeingFilled db → IsNoInstallation S.Store db }
     ensures blank { (db : Database) → IsBlank db → IsNoInstallation S.Store db }
@@ -90,14 +90,14 @@ pub struct MoveEnd<S: Alter> {
 
 /// Moves an old file, which isn't asked again of which schema it is, into a new one, which is empty:
 /// the tables are made first, by one commit, each laboratory is placed by one more, in the order of
-/// the codes' bytes, and the row that names the schema comes last, so that the new file is taken for
-/// none in which laboratories are kept until it is whole. Answers how many laboratories there are.
+/// the codes' bytes, and the row that names the schema comes last, so that the new file isn't taken
+/// for one in which laboratories are kept before it is whole. Answers how many laboratories there are.
 /// Nothing is written to the old file.
 ///
 /// # Errors
 /// The new file has a table of a name that is wanted; the rows of a laboratory aren't well kept, or it
-/// isn't bound or not under dual control; the store refused, a row is none that is written, or belongs
-/// to no laboratory; or memory ran out.
+/// isn't bound or not under dual control; the store refused, a row isn't one that is written, or
+/// belongs to no laboratory; or memory ran out.
 pub fn migrate<S: Alter, T: Alter, P: MoveProgress>(
     alloc: Global,
     old: OldFile<S>,

@@ -131,7 +131,7 @@ fn records_whole<D: Readable>(
 }
 
 /// Returns the records of the laboratory with the code, whose row has the id, in the order of their
-/// numbers. They have to be so many, and by these forms.
+/// numbers. They have to be of that number, and of these forms.
 ///
 /// # Errors
 /// They aren't well kept, the store failed, a row isn't one that a program could have written, or

@@ -37,7 +37,7 @@ fn codes_listed(alloc: Global, rows: &[Row]) -> Result<Series<LabCode>, ReadFaul
 /// were.
 ///
 /// # Errors
-/// The store refused, a row is none that is written, or memory ran out.
+/// The store refused, a row isn't one that is written, or memory ran out.
 pub fn codes<D: Readable>(alloc: Global, conn: &mut D) -> Result<Series<LabCode>, ReadFault>
     ensures { ReadsOldWhere HasCodes (λ t made. made ≡ codes_of t)
         (D.state conn.old) (D.state conn.new) result }

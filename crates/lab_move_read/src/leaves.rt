@@ -156,8 +156,8 @@ fn leaves_whole<D: Readable>(
     Ok(made)
 }
 
-/// Returns the versions of the record with the id, in the order of their numbers. They have to be
-/// so many.
+/// Returns the versions of the record with the id, in the order of their numbers. They have to be of
+/// that number.
 ///
 /// # Errors
 /// They aren't well kept, the store failed, a row isn't one that a program could have written, or

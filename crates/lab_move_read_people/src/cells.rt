@@ -1,4 +1,4 @@
-//! One column of a row, as the type that stands in it. What is none of that type is a fault of the store.
+//! One column of a row, as the type that stands in it. A value of another type is a fault of the store.
 
 ghost use Rattle.std.specs.Prelude.{◌≡◌, All, IfErr, IfOk};
 ghost use Rattle.sqlite_value.specs.Order.{column};
@@ -24,7 +24,7 @@ use std::alloc::Global;
 /// Yes or no, which stand as 1 and 0 alone.
 ///
 /// # Errors
-/// The store refused, a row is none that is written, or memory ran out.
+/// The store refused, a row isn't one that is written, or memory ran out.
 pub fn flag_of(row: &Row, at: usize) -> Result<bool, ReadFault>
     ensures value { IfOk result (λ flag. flag ≡ flag_in (column row.now at)) }
     ensures fault { IfErr result (λ fault. fault ≡ storage → ¬ HasFlag at row.now) }
@@ -39,7 +39,7 @@ pub fn flag_of(row: &Row, at: usize) -> Result<bool, ReadFault>
 /// The roles whose sum stands in a column; no sum is above 31.
 ///
 /// # Errors
-/// The store refused, a row is none that is written, or memory ran out.
+/// The store refused, a row isn't one that is written, or memory ran out.
 pub fn roles_of(row: &Row, at: usize) -> Result<Roles, ReadFault>
     ensures value { IfOk result (λ roles. roles ≡ roles_in (number_in (column row.now at))) }
     ensures fault { IfErr result (λ fault. fault ≡ storage → ¬ HasRoles at row.now) }
@@ -68,7 +68,7 @@ pub fn is_null(row: &Row, at: usize) -> Result<bool, ReadFault>
 /// A reason, or none, which stands as NULL or as an empty text.
 ///
 /// # Errors
-/// The store refused, a row is none that is written, or memory ran out.
+/// The store refused, a row isn't one that is written, or memory ran out.
 pub fn reason_of(alloc: Global, row: &Row, at: usize) -> Result<Option<Note>, ReadFault>
     ensures value { IfOk result (λ reason. reason ≡ reason_in (column row.now at)) }
     ensures fault { IfErr result (λ fault. fault ≡ storage → ¬ HasReason at row.now) }
@@ -80,10 +80,10 @@ pub fn reason_of(alloc: Global, row: &Row, at: usize) -> Result<Option<Note>, Re
     }
 }
 
-/// Whether there are so many rows, and the numbers in the column run from 1 on.
+/// Whether there is this number of rows, and the numbers in the column run from 1 on.
 ///
 /// # Errors
-/// A row is none that is written, or memory ran out.
+/// A row isn't one that is written, or memory ran out.
 pub fn are_counted(rows: &[Row], at: usize, count: u64) -> Result<bool, ReadFault>
     ensures value { IfOk result (λ yes. yes ≡ are_counted at count rows.now) }
     ensures fault { IfErr result (λ fault. fault ≡ storage → ¬ All (HasNumber at) rows.now) }

@@ -129,7 +129,7 @@ fn unset_of_row(row: &Row) -> Result<Password, ReadFault>
 /// What is kept of the password of the person whose row it is.
 ///
 /// # Errors
-/// The store refused, a row is none that is written, or memory ran out.
+/// The store refused, a row isn't one that is written, or memory ran out.
 pub(crate) fn password_of_row(older: Older, row: &Row) -> Result<Password, ReadFault>
     ensures value { IfOk result (λ password. password ≡ password_in (password_cells older row.now)) }
     ensures fault { IfErr result (λ fault. fault ≡ storage → ¬ HasOldPassword row.now) }
@@ -189,7 +189,7 @@ fn unasked_of_row(row: &Row) -> Result<Option<AskHead>, ReadFault>
 /// What an administrator asked for.
 ///
 /// # Errors
-/// The store refused, a row is none that is written, or memory ran out.
+/// The store refused, a row isn't one that is written, or memory ran out.
 pub(crate) fn ask_of_row(older: Older, row: &Row) -> Result<Option<AskHead>, ReadFault>
     ensures value { IfOk result (λ ask. ask ≡ ask_head (ask_cells older row.now)) }
     ensures fault { IfErr result (λ fault. fault ≡ storage → ¬ HasOldAsk row.now) }

@@ -78,7 +78,7 @@ fn sessions_tried(
 }
 
 /// Returns the sessions of the laboratory with the id, in the order of their numbers. They have to
-/// be so many.
+/// be of that number.
 ///
 /// # Errors
 /// They aren't well kept, the store failed, a row isn't one that a program could have written, or

@@ -97,8 +97,8 @@ fn told_heads_at<D: Readable>(
     told_tried(alloc, &rows, count)
 }
 
-/// Returns the trail of the laboratory with the id, in the order of its numbers. It has to have so
-/// many rows.
+/// Returns the trail of the laboratory with the id, in the order of its numbers. It has to have
+/// that number of rows.
 ///
 /// # Errors
 /// They aren't well kept, the store failed, a row isn't one that a program could have written, or

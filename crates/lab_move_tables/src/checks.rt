@@ -11,7 +11,7 @@ use sqlite::Row;
 /// Whether the numbers in the column run from 1 on without gaps.
 ///
 /// # Errors
-/// A row is none that is written, or memory ran out.
+/// A row isn't one that is written, or memory ran out.
 pub fn are_rows_numbered(rows: &[Row], at: usize) -> Result<bool, ReadFault>
     ensures value { IfOk result (λ yes. yes ≡ are_rows_numbered at rows.now) }
     ensures fault { IfErr result (λ fault. fault ≡ storage → ¬ All (HasNumber at) rows.now) }
@@ -29,7 +29,7 @@ pub fn are_rows_numbered(rows: &[Row], at: usize) -> Result<bool, ReadFault>
 /// Whether each row has the laboratory in the column.
 ///
 /// # Errors
-/// A row is none that is written, or memory ran out.
+/// A row isn't one that is written, or memory ran out.
 pub fn are_owned(rows: &[Row], at: usize, lab: i64) -> Result<bool, ReadFault>
     ensures value { IfOk result (λ yes. yes ≡ are_owned at lab rows.now) }
     ensures fault { IfErr result (λ fault. fault ≡ storage → ¬ All (HasId at) rows.now) }

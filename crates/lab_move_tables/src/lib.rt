@@ -1,6 +1,6 @@
 //! The twelve tables of a file of an older schema, read as rows of the tables of today's: what a laboratory in such a file means, and
 //! when its rows are well kept (21 CFR 11.10(c), "protection of records to enable their accurate and ready retrieval
-//! throughout the records retention period"; ISO/IEC 17025:2017, 8.4.2); the fifteen questions by which they are read; and
+//! throughout the records retention period"; ISO/IEC 17025:2017, 8.4.2); the fifteen questions that read them; and
 //! whether a laboratory is within its limits, bound and under dual control, for which its digests and seals are computed
 //! again (21 CFR 11.70, signatures "linked to their respective electronic records", and 11.10(a), "the ability to discern
 //! invalid or altered records").

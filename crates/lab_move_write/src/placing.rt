@@ -78,7 +78,7 @@ fn commit_whole<S: Alter, P: MoveProgress>(
     tx.commit()
 }
 
-/// Places the laboratory by one commit: its row, and all that it has, each kind in its order. The progress is told after
+/// Places the laboratory by one commit: its row, and all that it has, each kind in its order. The progress is reported after
 /// each record.
 ///
 /// # Errors

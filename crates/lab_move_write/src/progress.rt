@@ -4,10 +4,10 @@ use lab_forms_texts::LabCode;
 
 /// Who hears how far a move is.
 pub trait MoveProgress {
-    /// The laboratory is the next to be carried along, behind so many of so many.
+    /// The laboratory is moved next; of all laboratories this number was moved before it.
     fn tell_lab(&mut self, lab: &LabCode, done: usize, all: usize);
 
-    /// So many of the laboratory's so many records are written.
+    /// Of all records of the laboratory this number is written.
     fn tell_records(&mut self, done: usize, all: usize);
 }
 

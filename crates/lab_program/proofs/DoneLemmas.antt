@@ -21,7 +21,7 @@ use Rattle.lab_program_check.specs.declared.faults.StopFault.TheVariants.{Memory
 use Rattle.lab_program_check.specs.Verdicts.{IsCheck}
 use Rattle.lab_program_opening.specs.declared.faults.OpenFault.{OpenFault}
 use Rattle.lab_program_opening.specs.Faults.{unopened_fault}
-use Rattle.lab_program_files.specs.FileWorlds.{file_keeper}
+use Rattle.lab_program_files.specs.FileWorlds.{file_keeper, file_refuses}
 use Rattle.lab_program_opening.specs.Ends.{WasClosed, WasGivenUp}
 use Rattle.lab_program_opening.specs.Files.{IsOpened, IsOurs, IsOursAnywhere, IsUnmade, IsUnopened}
 use Rattle.lab_program_opening.specs.Volumes.{FileAt}
@@ -122,7 +122,7 @@ module _ {S Volume : Type 0} (disk : Ghosts S) (files : Volume → List ℕ → 
   no_copy_if : (file : FileAt) (task : CopyTask) (ordered : Bool) → IsUnbegun before after told_before told_after status
       → IsCopiedIf disk file (WasClosed closes) task ordered (seen before after told_before told_after status)
   no_copy_if file task true told = never_begun before after told_before told_after status _
-      (no_copying before after told_before told_after status (file_keeper disk) task (IsOurs disk file.holds) (WasClosed closes) (IsUnopened disk (WasClosed closes) file) (inl tt))
+      (no_copying before after told_before told_after status (file_keeper disk) (file_refuses disk) task (IsOurs disk file.holds) (WasClosed closes) (IsUnopened disk (WasClosed closes) file) (inl tt))
       (is_lab_code task.code) told
   no_copy_if file task false told = (OutOfMemory, inl refl, told)
 

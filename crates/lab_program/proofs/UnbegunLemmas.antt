@@ -87,11 +87,11 @@ module _ (before after told_before told_after : Option (List ℕ)) (status : Res
     told = declines_task told;
   }
 
-  pub no_copying : {S : Type 0} (keeper : KeeperOf S) (task : CopyTask)
+  pub no_copying : {S : Type 0} (keeper : KeeperOf S) (refuses : S → S → List ℕ → ℕ → ℕ → Type 0) (task : CopyTask)
       (opened closed : S → Type 0) (unopened : OpenFault → Type 0) → unopened unopened_fault
       → IsUnbegun before after told_before told_after status
-      → IsCopying keeper task opened closed unopened (seen before after told_before told_after status)
-  no_copying keeper task opened closed unopened cause told = record {
+      → IsCopying keeper refuses task opened closed unopened (seen before after told_before told_after status)
+  no_copying keeper refuses task opened closed unopened cause told = record {
     ending = Err unopened_fault;
     copies = tt;
     unbegun = told.0;

@@ -1,8 +1,9 @@
 -- What the first bytes of an input found is what all of it founds, where they are more than a body may have.
-use Rattle.std.proofs.Common.{◌≡◌, ℕ, List, Option, Some, None, Result, Ok, Err, ap₂, lit<, subst, take}
+use Rattle.std.proofs.Common.{◌≡◌, ◌∙◌, ℕ, List, Option, Some, None, Result, Ok, Err, ap, ap₂, lit<, refl, subst, take}
 use Rattle.std.specs.Prelude.{IfOk, IfSome, option_map}
 use Rattle.lab_records_keeper.specs.declared.keeper.Keeper.{Ghosts as KeeperOf}
 use Rattle.lab_desk_foundings.specs.Faults.{FoundFaultFits}
+use Rattle.lab_desk_events.specs.Causes.{RefusesBirth}
 use Rattle.lab_forms_texts.specs.declared.tick.Tick.{Tick}
 use Rattle.lab_desk_foundings.specs.Foundings.{Body, Founds, IsNewborn, founding_in}
 use Rattle.lab_desk_foundings.proofs.Bodies.{said_by_front}
@@ -25,6 +26,20 @@ of_whole (Some bytes) P Q so holds = so bytes holds
 
 front_says : (bytes : List ℕ) → founding_in (take 1000001 bytes) ≡ founding_in bytes
 front_says bytes = said_by_front 1000001 bytes (lit< tt)
+
+-- the input of which these bytes were read, where it is known; and else these bytes
+whole_of : Option (List ℕ) → List ℕ → List ℕ
+whole_of None read = read
+whole_of (Some bytes) read = bytes
+
+whole_is : (input : Option (List ℕ)) (read : List ℕ) → IfSome input (λ all. whole_of input read ≡ all)
+whole_is None read = tt
+whole_is (Some bytes) read = refl
+
+whole_says : (input : Option (List ℕ)) (read : List ℕ) → IfSome (front_of input) (λ all. read ≡ all)
+    → founding_in read ≡ founding_in (whole_of input read)
+whole_says None read is = refl
+whole_says (Some bytes) read is = ap founding_in is ∙ front_says bytes
 
 -- ---- a founding in a file
 
@@ -51,6 +66,8 @@ module _ {S : Type 0} (keeper : KeeperOf S) (drawing : Drawing) (code : List ℕ
     ends.0,
     ends.1,
     subst (λ (body : Body). IsRefusedAt keeper old new code ends.0 body fault) same ends.2,
+    subst (λ (body : Body). FoundFaultFits (RefusesBirth keeper old new ends.0 code body) (Unit {0}) code ends.0 body fault) same
+        ends.3,
   )
   ends_as one other old new (Err (Server Read)) same ends = ends
   ends_as one other old new (Err (Server Write)) same ends =
@@ -60,10 +77,11 @@ module _ {S : Type 0} (keeper : KeeperOf S) (drawing : Drawing) (code : List ℕ
   pub ends_whole : (old new : S) (ending : Result (Unit {0}) RehearsalFault)
       → Ends keeper (task_of drawing code (front_of input)) old new ending
       → Ends keeper (task_of drawing code input) old new ending
-  ends_whole old new ending ends = λ honest reached. of_whole input
-      (λ bytes. EndsFounding keeper (task_of drawing code (front_of input)) bytes old new ending)
-      (λ bytes. EndsFounding keeper (task_of drawing code input) bytes old new ending)
-      (λ bytes. ends_as (take 1000001 bytes) bytes old new ending (front_says bytes)) (ends honest reached)
+  ends_whole old new ending ends = (
+    whole_of input ends.0,
+    whole_is input ends.0,
+    λ honest reached. ends_as ends.0 (whole_of input ends.0) old new ending (whole_says input ends.0 ends.1) (ends.2 honest reached),
+  )
 
   over_whole : (opened : S → Type 0) (ending : Result (Unit {0}) RehearsalFault)
       → EndsOver keeper (task_of drawing code (front_of input)) opened ending

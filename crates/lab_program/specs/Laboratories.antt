@@ -14,7 +14,7 @@ use Rattle.lab_program_serve.specs.RehearseTask.{IsRehearsal}
 use Rattle.lab_program_opening.specs.Files.{IsOpened, IsOurs, IsUnmade, IsUnopened}
 use Rattle.lab_program_opening.specs.Volumes.{FileAt}
 use Rattle.lab_program_files.specs.Copying.{CopyTask, IsCopying}
-use Rattle.lab_program_files.specs.FileWorlds.{file_keeper}
+use Rattle.lab_program_files.specs.FileWorlds.{file_keeper, file_refuses}
 use Rattle.lab_program_files.specs.Foundings.{FoundTask, IsFounding}
 use Rattle.lab_program_app.specs.Explaining.{IsExplained}
 
@@ -49,7 +49,7 @@ module _ {S : Type 0} (disk : Ghosts S) (file : FileAt) (closed : Held S → Typ
   -- a copy of the records of a file's laboratory, at the moment that the clock gave
   abbrev pub IsCopied : CopyTask → TaskEnd → Type 0
   IsCopied task end =
-      OfCode end (IsCopying (file_keeper disk) task (IsOurs disk file.holds) closed
+      OfCode end (IsCopying (file_keeper disk) (file_refuses disk) task (IsOurs disk file.holds) closed
       (IsUnopened disk closed file) end) task.code
 
   -- by whether its range begins before it ends, or there: one that doesn't is a fault in the words

@@ -1,4 +1,4 @@
-//! The check of a copy, and what a person at a terminal is told of it besides.
+//! The check of a copy, and what is printed besides for a person at a terminal.
 
 ghost use Rattle.std.specs.Prelude.{IfSome};
 ghost use Rattle.lab_copy_rows.specs.Copies.{verdict};
@@ -21,7 +21,7 @@ fn advise_of<H: Volume>(volume: &mut H, flaw: Option<Flaw>) {
 /// `labdesk check`, of the copy that the input has. Answers the status.
 ///
 /// # Errors
-/// The check stopped, and standard error failed before the whole line was told.
+/// The check stopped, and standard error failed before the whole line was written.
 pub fn check_for<M: Outside<Volume: Volume>, R: Read + Drop, W: Writers>(
     host: &mut Host<'_, M>,
     input: R,

@@ -144,7 +144,7 @@ where
     copy_range(host, file, lab, ordinal(from), ordinal(to), streams)
 }
 
-/// `labdesk rehearse`, of the laboratory of this text after so many seconds, its body being all of the input. Answers the
+/// `labdesk rehearse`, of the laboratory of this text after this number of seconds, its body being all of the input. Answers the
 /// status.
 ///
 /// # Errors

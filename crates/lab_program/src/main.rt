@@ -18,7 +18,7 @@ use std::process::ExitCode;
 /// The status where a fault could not be told either: that of a fault.
 const UNTOLD: u8 = 1;
 
-/// What is told of words that are no text, as clap tells of a fault in words; and the status.
+/// What is printed about words that are no text, as clap prints a fault in words; and the status.
 const NO_TEXT: &str = "error: invalid UTF-8 was detected in one or more arguments
 
 Usage: labdesk <COMMAND>

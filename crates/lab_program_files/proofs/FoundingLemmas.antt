@@ -1,17 +1,19 @@
 -- How a founding over a keeper ends, and what is printed of it.
-use Rattle.std.proofs.Common.{◌≡◌, ℕ, List, Option, None, Some, refl, subst, sym}
+use Rattle.std.proofs.Common.{◌≡◌, ℕ, List, [], Option, None, Some, unwrap_or, refl, subst, sym}
 use Rattle.std.specs.Prelude.{Err, IfErr, IfSome, Ok, Result}
 use Rattle.std.specs.Io.KnownBytes.{Keeps}
 use Rattle.lab_forms_texts.specs.declared.tick.Tick.{Tick}
 use Rattle.lab_records_keeper.specs.declared.keeper.Keeper.{Ghosts}
 use Rattle.lab_records_keeper.specs.Worlds.{Given, IsDurable, Lives}
 use Rattle.lab_desk_foundings.specs.declared.faults.FoundFault.{FoundFault}
+use Rattle.lab_desk_foundings.specs.Faults.{FoundFaultFits}
 use Rattle.lab_desk_foundings.specs.Foundings.{Founds, founding_in}
+use Rattle.lab_desk_events.specs.Causes.{RefusesBirth}
 use Rattle.lab_desk_events.specs.Keeping.{Stays}
 use Rattle.lab_program_host.specs.declared.faults.ServerFault.{ServerFault}
 use Rattle.lab_program_host.specs.declared.faults.ServerFault.TheVariants.{Memory, Read, Write}
 use Rattle.lab_program_host.specs.Faults.{IsReaderFault}
-use Rattle.lab_program_host.proofs.ReadLemmas.{for_known, known_as}
+use Rattle.lab_program_host.proofs.ReadLemmas.{known_as}
 use Rattle.lab_program_host.specs.declared.faults.RehearsalFault.{RehearsalFault as FoundingFault}
 use Rattle.lab_program_host.specs.declared.faults.RehearsalFault.TheVariants.{Founding, Server}
 use Rattle.lab_program_host.specs.Sources.{Drawing, IsDrawn, drawing_of}
@@ -34,6 +36,11 @@ undrawn = drawing_of None None None None
 abbrev pub task_of : Drawing → List ℕ → Option (List ℕ) → FoundTask
 task_of drawing code body = record { drawing = drawing; code = code; body = body }
 
+-- all of an input, where it is known
+all_of : (known : Option (List ℕ)) → IfSome known (λ all. unwrap_or known [] ≡ all)
+all_of None = tt
+all_of (Some all) = refl
+
 module _ {S : Type 0} (keeper : Ghosts S) (drawing : Drawing) (code : List ℕ) where
   idle : (known : Option (List ℕ)) (bytes : List ℕ) (kept : S) (fault : ServerFault) →
       IsReaderFault fault →
@@ -42,17 +49,12 @@ module _ {S : Type 0} (keeper : Ghosts S) (drawing : Drawing) (code : List ℕ) 
   idle known bytes kept Write h = absurd h
   idle known bytes kept Memory h = refl
 
-  idle_known : (known : Option (List ℕ)) (kept : S) (fault : ServerFault) → IsReaderFault fault →
-      IfSome known (λ bytes. EndsFounding keeper (task_of drawing code known) bytes kept kept
-      (Err (Server fault)))
-  idle_known None kept fault h = tt
-  idle_known (Some bytes) kept fault h = idle (Some bytes) bytes kept fault h
-
   -- nothing was done
   pub ends_idle : (known : Option (List ℕ)) (kept : S) (fault : ServerFault) →
       IsReaderFault fault →
       Ends keeper (task_of drawing code known) kept kept (Err (Server fault))
-  ends_idle known kept fault h = λ honest reached. idle_known known kept fault h
+  ends_idle known kept fault h =
+      (unwrap_or known [], all_of known, λ honest reached. idle known (unwrap_or known []) kept fault h)
 
   -- the founding was refused
   pub ends_refused : (known : Option (List ℕ)) (read bytes : List ℕ) (old new : S) (tick : Tick)
@@ -60,11 +62,14 @@ module _ {S : Type 0} (keeper : Ghosts S) (drawing : Drawing) (code : List ℕ) 
       → IfSome known (λ all. bytes ≡ all)
       → Given (keeper.world old) (keeper.world new)
       (IsRefusedAt keeper old new code tick (founding_in read) fault)
+      → FoundFaultFits (RefusesBirth keeper old new tick code (founding_in read)) (Unit {0}) code tick
+      (founding_in read) fault
       → Ends keeper (task_of drawing code known) old new (Err (Founding fault))
-  ends_refused known read bytes old new tick fault drawn same whole refused = λ honest reached.
-      for_known known read
-      (λ all. EndsFounding keeper (task_of drawing code known) all old new (Err (Founding fault)))
-      (known_as known read bytes same whole) (tick, drawn, refused honest reached)
+  ends_refused known read bytes old new tick fault drawn same whole refused cause = (
+    read,
+    known_as known read bytes same whole,
+    λ honest reached. (tick, drawn, refused honest reached, cause),
+  )
 
   printed_so : (known : Option (List ℕ)) (bytes : List ℕ) (old new : S)
       (result : Result (Unit {0}) FoundingFault) → IfErr result (λ fault. fault ≡ Server Write) →
@@ -85,10 +90,8 @@ module _ {S : Type 0} (keeper : Ghosts S) (drawing : Drawing) (code : List ℕ) 
       Given (keeper.world old) (keeper.world new) (Stays (keeper.world old) (keeper.world new)) →
       Ends keeper (task_of drawing code known) old new result
   ends_founded known read bytes old new tick result drawn same whole printed founds durable lives stays =
-      λ honest reached. for_known known read
-      (λ all. EndsFounding keeper (task_of drawing code known) all old new result)
-      (known_as known read bytes same whole)
-      (printed_so known read old new result printed (
+      (read, known_as known read bytes same whole, λ honest reached.
+      printed_so known read old new result printed (
         tick,
         drawn,
         record {

@@ -7,6 +7,7 @@ use Rattle.lab_program_host.specs.Sources.{GivesInOrder}
 use Rattle.lab_program_host.specs.TaskEnds.{TaskEnd}
 use Rattle.lab_copy_rows.specs.Outs.{Sends}
 use Rattle.lab_records_copy_out.specs.declared.faults.CopyOutFault.{CopyOutFault}
+use Rattle.lab_records_copy_out.specs.Causes.{Refusing, RefusesCopy}
 use Rattle.lab_records_copy_out.specs.Faults.{CopyFaultFits, copy_fault_word}
 use Rattle.lab_records_copy_out.specs.Resting.{IsOnlyRead}
 use Rattle.lab_records_copy_out.specs.Walks.{CanWalk, copy_text, desk_order}
@@ -25,8 +26,8 @@ pub record CopyTask : Type 0 where
   pub from : ℕ
   pub to : ℕ
 
-module _ {S : Type 0} (keeper : Ghosts S) (task : CopyTask) (opened : S → Type 0)
-    (before after : Option (List ℕ)) where
+module _ {S : Type 0} (keeper : Ghosts S) (refuses : Refusing S) (task : CopyTask)
+    (opened : S → Type 0) (before after : Option (List ℕ)) where
   -- over a keeper that was opened, at the moment that the clock gave: the copy's text went out, or
   -- its first bytes where a fault came; and the rows are as they were
   pub record Copies (ending : Result (Unit {0}) CopyOutFault) : Type 0 where
@@ -45,6 +46,9 @@ module _ {S : Type 0} (keeper : Ghosts S) (task : CopyTask) (opened : S → Type
         (keeper.world old).may_refuse
         (Given (keeper.world old) (keeper.world new)
         (IsSome ((keeper.world old).meaning task.code))))
+    -- the store refused it for this cause
+    pub cause : IfErr ending (CopyFaultFits (Unit {0})
+        (RefusesCopy keeper refuses old new task.code task.from task.to) (Unit {0}))
     pub read : IsOnlyRead keeper.world keeper.rests old new
 
   -- so it was; and what is left to be closed is the keeper as the copy left it
@@ -52,8 +56,8 @@ module _ {S : Type 0} (keeper : Ghosts S) (task : CopyTask) (opened : S → Type
   CopiesTo ending finished = (copies : Copies ending) × (finished ≡ Some copies.new)
 
 -- the task `copy`, by its status and what was told: the keeper was closed as the copy left it
-module _ {S : Type 0} (keeper : Ghosts S) (task : CopyTask) (opened closed : S → Type 0)
-    (unopened : OpenFault → Type 0) where
+module _ {S : Type 0} (keeper : Ghosts S) (refuses : Refusing S) (task : CopyTask)
+    (opened closed : S → Type 0) (unopened : OpenFault → Type 0) where
   -- why no copy was begun: the file wasn't opened; or the clock failed, and the file was closed
   abbrev pub IsUnbegun : OpenFault → Type 0
   IsUnbegun fault = unopened fault
@@ -62,7 +66,8 @@ module _ {S : Type 0} (keeper : Ghosts S) (task : CopyTask) (opened closed : S �
   pub record IsCopying (end : TaskEnd) : Type 0 where
     pub ending : Result (Result (Unit {0}) CopyOutFault) OpenFault
     pub copies : IfOk ending (λ copied.
-        (copies : Copies keeper task opened end.before end.after copied) × closed copies.new)
+        (copies : Copies keeper refuses task opened end.before end.after copied)
+        × closed copies.new)
     pub unbegun : IfErr ending (λ _. Keeps end.before end.after)
     pub cause : IfErr ending IsUnbegun
     pub told : TellsTask copy_fault_word ending end.status end.told_before end.told_after

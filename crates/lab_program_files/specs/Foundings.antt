@@ -8,6 +8,7 @@ use Rattle.lab_records_keeper.specs.Worlds.{CommitsAs, Given, IsDurable, Leaves,
 use Rattle.lab_desk_foundings.specs.declared.faults.FoundFault.{FoundFault}
 use Rattle.lab_desk_foundings.specs.Faults.{FoundFaultFits, OnBody, OnKept, OnUncommitted}
 use Rattle.lab_desk_foundings.specs.Foundings.{Births, Body, Founds, founded_line, founding_in}
+use Rattle.lab_desk_events.specs.Causes.{RefusesBirth}
 use Rattle.lab_desk_events.specs.Keeping.{Stays}
 use Rattle.lab_program_host.specs.Sources.{Drawing, IsDrawn}
 use Rattle.lab_program_host.specs.TaskEnds.{TaskEnd}
@@ -75,20 +76,22 @@ module _ {S : Type 0} (keeper : Ghosts S) (task : FoundTask) where
         × IsFoundedAt keeper old new task.code tick bytes
 
     -- by how it ended: where the output failed the laboratory is founded all the same; a refusal is
-    -- the founding's, at the tick; where body, clock or chance failed, or memory ran out before,
-    -- nothing was done
+    -- the founding's, at the tick, and has its cause; where body, clock or chance failed, or memory
+    -- ran out before, nothing was done
     abbrev pub EndsFounding : Result (Unit {0}) FoundingFault → Type 0
     EndsFounding (Ok _) = IsFounded
     EndsFounding (Err (Founding fault)) = (tick : Tick) × IsDrawn task.drawing tick
         × IsRefusedAt keeper old new task.code tick (founding_in bytes) fault
+        × FoundFaultFits (RefusesBirth keeper old new tick task.code (founding_in bytes)) (Unit {0})
+        task.code tick (founding_in bytes) fault
     EndsFounding (Err (Server Read)) = new ≡ old
     EndsFounding (Err (Server Write)) = IsFounded
     EndsFounding (Err (Server Memory)) = new ≡ old
 
-  -- how a founding ends, where its body is known
+  -- how a founding ends, by the body that it read: all of the input, where that is known
   abbrev pub Ends : S → S → Result (Unit {0}) FoundingFault → Type 0
-  Ends old new ending = Given (keeper.world old) (keeper.world new)
-      (IfSome task.body (λ bytes. EndsFounding bytes old new ending))
+  Ends old new ending = (bytes : List ℕ) × IfSome task.body (λ all. bytes ≡ all)
+      × Given (keeper.world old) (keeper.world new) (EndsFounding bytes old new ending)
 
   module _ (opened : S → Type 0) where
     -- the founding ended so over a keeper that was opened

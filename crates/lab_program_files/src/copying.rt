@@ -3,7 +3,7 @@
 ghost use Rattle.std.specs.Prelude.{◌≡◌, IfErr, IfOk, IfSome, MatchOption};
 ghost use Rattle.std.specs.Io.KnownBytes.{Keeps};
 ghost use Rattle.lab_program_files.specs.Copying.{CopiesTo, IsCopying};
-ghost use Rattle.lab_program_files.specs.FileWorlds.{file_keeper};
+ghost use Rattle.lab_program_files.specs.FileWorlds.{file_keeper, file_refuses};
 ghost use Rattle.lab_program_host.specs.Hosts.{end_between};
 ghost use Rattle.lab_program_opening.specs.Ends.{WasClosed};
 ghost use Rattle.lab_program_opening.specs.Files.{IsOurs, IsUnopened};
@@ -32,7 +32,8 @@ fn copy_file<M: Outside<Volume: Volume, Progress: Progress>, W: Write>(
 ) -> Ended<Result<Result<(), CopyOutFault>, OpenFault>, <M::Volume as Volume>::Disk>
 where
     Connection<<M::Volume as Volume>::Disk>: Closable,
-    ensures copies { IfOk result.ending (λ ending. CopiesTo (file_keeper M.Volume.Disk.Store) (record {
+    ensures copies { IfOk result.ending (λ ending. CopiesTo (file_keeper M.Volume.Disk.Store)
+        (file_refuses M.Volume.Disk.Store) (record {
       moments = M.Clock.coming host.old.clock;
       later = M.Clock.coming host.new.clock;
       code = lab.now;
@@ -84,12 +85,12 @@ where
 }
 
 /// `labdesk copy`: opens the file at the path, writes the inspection copy of the laboratory's
-/// records from a number to a number, one version at a time, tells after each record how far it is,
-/// and tells on standard error why it stopped. Answers the status: 0 where the copy is whole, and
+/// records from a number to a number, one version at a time, reports the progress after each record,
+/// and says on standard error why it stopped. Returns the status: 0 where the copy is whole, and
 /// else 1. The rows stay as they are.
 ///
 /// # Errors
-/// It stopped, and standard error failed before the whole line was told.
+/// It stopped, and standard error failed before the whole line was written.
 pub fn copy<M: Outside<Volume: Volume, Progress: Progress>, W: Writers>(
     host: &mut Host<'_, M>,
     path: &str,
@@ -100,7 +101,7 @@ pub fn copy<M: Outside<Volume: Volume, Progress: Progress>, W: Writers>(
 ) -> Result<u8, WriteFault>
 where
     Connection<<M::Volume as Volume>::Disk>: Closable,
-    ensures { IsCopying (file_keeper M.Volume.Disk.Store) (record {
+    ensures { IsCopying (file_keeper M.Volume.Disk.Store) (file_refuses M.Volume.Disk.Store) (record {
       moments = M.Clock.coming host.old.clock;
       later = M.Clock.coming host.new.clock;
       code = lab.now;

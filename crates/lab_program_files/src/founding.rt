@@ -172,13 +172,13 @@ where
     }
 }
 
-/// `labdesk found`: founds a laboratory in the file at the path, which is made where there is none,
+/// `labdesk found`: founds a laboratory in the file at the path, which is made if it isn't there,
 /// from its body, at the moment and with the words that are drawn, prints that it is founded, and
-/// tells on standard error why it isn't. Answers the status: 0 where it is founded and that was
+/// says on standard error why it isn't. Returns the status: 0 where it is founded and that was
 /// printed, and else 1. A file that was made stays.
 ///
 /// # Errors
-/// It failed, and standard error failed before the whole line was told.
+/// It failed, and standard error failed before the whole line was written.
 pub fn found<M: Outside<Volume: Volume>, B: Read, W: Writers>(
     host: &mut Host<'_, M>,
     path: &str,

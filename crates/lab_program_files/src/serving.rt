@@ -120,13 +120,13 @@ where
 }
 
 /// `labdesk serve`: opens the file at the path, listens at a port of this machine (0 is any that is
-/// free), prints which, serves so many connections one after the other, and tells on standard error
-/// why it stopped before the last. Once a fault has shut the file, or it no longer lies at the path,
-/// it is opened anew before the next request. Answers the status: 0 where all were served, and
+/// free), prints which, serves this number of connections one after the other, and says on standard
+/// error why it stopped before the last. Once a fault has shut the file, or it no longer lies at the path,
+/// it is opened anew before the next request. Returns the status: 0 where all were served, and
 /// else 1.
 ///
 /// # Errors
-/// It stopped, and standard error failed before the whole line was told.
+/// It stopped, and standard error failed before the whole line was written.
 pub fn serve<M: Outside<Volume: Volume>, W: Writers>(
     host: &mut Host<'_, M>,
     path: &str,

@@ -9,9 +9,11 @@ use Rattle.sqlite.specs.Held.{Held, state}
 use Rattle.sqlite.specs.State.{HasCleanDisk}
 use Rattle.lab_store_tables.specs.Ready.{tables_of}
 use Rattle.lab_store_files.specs.declared.faults.FileFault.{FileFault}
+use Rattle.lab_store_files.specs.declared.faults.FileFault.TheVariants.{Storage}
 use Rattle.lab_forms_texts.specs.Faults.{memory_entry}
 use Rattle.lab_forms_streams.specs.declared.sending.WriteFault.{WriteFault as Untold}
 use Rattle.lab_forms_streams.specs.Sending.{write_fault_word}
+use Rattle.lab_move.specs.Causes.{IsMoveCaused}
 use Rattle.lab_move.specs.OldFiles.{StandsFor}
 use Rattle.lab_move.specs.Moving.{HasCause, IsMoved, IsStart, Lasts, LeavesUnfinished}
 use Rattle.lab_move.specs.Owed.{AnswersOldOwed, MovesAsOwed}
@@ -118,6 +120,10 @@ module _ {S : Type 0} (disk : Ghosts S) where
     pub owed : MovesAsOwed (state disk old) (state disk moves.left) (state disk new) result
     pub durable : HasCleanDisk (state disk moves.made) → OnOk result
         (Lasts (state disk old) (state disk moves.left) (state disk moves.made))
+    -- the fault of a store has its cause
+    pub cause : HasCleanDisk (state disk moves.left) → HasCleanDisk (state disk moves.made) →
+        IfErr result (λ fault. fault ≡ File Storage →
+        IsMoveCaused (state disk) disk old moves.left new moves.made)
 
   -- so it was; and what is left to be closed is the new file as it was left
   abbrev pub MovesTo : (old new : Held S) → Result ℕ MoveFault → Option (Held S) → Type 0

@@ -154,7 +154,7 @@ fn count_moved<H: Volume>(
 /// Returns the status: 0 where all were moved and that was printed, and else 1. The old file stays as it is.
 ///
 /// # Errors
-/// It stopped, and standard error failed before the whole line was told.
+/// It stopped, and standard error failed before the whole line was written.
 pub fn migrate<M: Outside<Volume: Volume>, W: Writers>(
     host: &mut Host<'_, M>,
     old: &str,

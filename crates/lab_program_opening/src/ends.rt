@@ -45,7 +45,7 @@ impl Closable for Connection<MemStore> {
     }
 }
 
-/// A connection behind the last statement of a task: it is closed, and nothing else is done with
+/// A connection after the last statement of a task: it is closed, and nothing else is done with
 /// it. It isn't `Drop`, so that no task forgets to close it. A contract sees the connection.
 pub struct Finished<S: Alter> {
     conn: Connection<S>,
@@ -62,7 +62,7 @@ impl<S: Alter> Model for Finished<S> {
 }
 
 impl<S: Alter> Finished<S> {
-    /// Takes a connection behind the last statement of a task.
+    /// Takes a connection after the last statement of a task.
     pub fn new(conn: Connection<S>) -> Finished<S>
         ensures { result ≡ conn }
     {

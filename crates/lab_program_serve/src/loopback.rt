@@ -205,12 +205,12 @@ fn serve_listener<M: Outside, S: Keeper + Drop, O: Opener<M::Volume, S> + Drop, 
     serve_over(host, live_desk, &mut listening, count, output)
 }
 
-/// `labdesk serve`: serves so many connections of a listener, as [`serve_over`] does, and tells on
-/// standard error why it stopped before the last. Answers the status: 0 where all were served, and
+/// `labdesk serve`: serves this number of connections of a listener, as [`serve_over`] does, and says
+/// on standard error why it stopped before the last. Returns the status: 0 where all were served, and
 /// else 1.
 ///
 /// # Errors
-/// It stopped, and standard error failed before the whole line was told.
+/// It stopped, and standard error failed before the whole line was written.
 pub fn serve<M: Outside, S: Keeper + Drop, O: Opener<M::Volume, S> + Drop, W: Writers>(
     host: &mut Host<'_, M>,
     live_desk: &mut LiveDesk<S, O>,

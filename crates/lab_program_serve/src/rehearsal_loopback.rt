@@ -59,11 +59,11 @@ fn found_and_ask<N: Net, B: Read, W: Write>(
 
 /// `labdesk rehearse`: founds a laboratory in memory from its body, at the first of all moments,
 /// asks for its card over a socket of this machine at the moment that is given, and prints what it
-/// gets. Tells on standard error why the founding was refused, or what failed. Answers the status:
+/// gets. Says on standard error why the founding was refused, or what failed. Returns the status:
 /// 0 where a reply was printed, and else 1.
 ///
 /// # Errors
-/// It failed, and standard error failed before the whole line was told.
+/// It failed, and standard error failed before the whole line was written.
 pub fn rehearse<M: Outside, B: Read, W: Writers>(
     host: &mut Host<'_, M>,
     lab: &LabCode,

@@ -33,7 +33,7 @@ pub(crate) enum Task<'a> {
         /// The kind of ids.
         ids: &'a str,
     },
-    /// What the tables of laboratories say is told.
+    /// What the tables of laboratories say.
     Tell,
     /// A laboratory is founded.
     Found(&'a Newborn),
@@ -46,7 +46,7 @@ pub(crate) enum Task<'a> {
 pub(crate) enum Outcome {
     /// The file was not opened.
     Unopened,
-    /// It was opened, and is none of laboratories.
+    /// It was opened, and isn't a file of laboratories.
     NotOurs,
     /// The store refused to make it, or to found a laboratory in it.
     Refused,
@@ -206,8 +206,8 @@ fn closed(store: FileStore<Fuse<Memory>>) -> Pair {
     store.close()
 }
 
-/// Does the task over the file on the disks, which is opened for it, and gives the disks back; none
-/// where there was no memory. What came of it is told: a file that isn't opened is `Unopened`.
+/// Does the task over the file on the disks, which is opened for it, and gives the disks back; or
+/// memory ran out. It says what came of it: a file that isn't opened is `Unopened`.
 pub(crate) fn work(
     alloc: Global,
     disks: Pair,

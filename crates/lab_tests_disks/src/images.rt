@@ -39,7 +39,7 @@ pub(crate) enum Stopped {
 }
 
 impl Stopped {
-    /// So many calls of that disk are passed on, and each of the other one.
+    /// This number of calls of that disk is passed on, and each of the other one.
     pub(crate) fn after(self, calls: u64) -> Passed {
         match self {
             Stopped::Log => Passed {
@@ -85,7 +85,7 @@ fn stopping(alloc: Global, bytes: &[u8], passed: u64) -> Option<Fuse<Memory>> {
     }
 }
 
-/// Both disks with what they hold, of which so many calls are passed on; none where memory ran out.
+/// Both disks with what they hold, which pass on this number of calls; `None` if memory ran out.
 pub(crate) fn laid(alloc: Global, image: &Image, passed: Passed) -> Option<Pair> {
     let log = stopping(alloc, &image.log, passed.log)?;
     let db = stopping(alloc, &image.file, passed.file)?;

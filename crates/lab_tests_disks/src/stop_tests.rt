@@ -1,8 +1,8 @@
 //! Each call of a log, or of its file, stopped in turn: while the file is opened, and something is
 //! asked of it, or a laboratory is founded in it, or it is made. Of a file that isn't opened the
-//! rows are those of before. Of one that is, the reply is the request's own, or says that the store
-//! refused. Whether the machine stops too or not, the file opens anew, and its rows are those of
-//! after the request where the reply was its own, and else those of before it or of after it. A
+//! rows are as they were. Of one that is, the reply is the request's own, or says that the store
+//! refused. Whether the machine stops too or not, the file opens anew, and its rows are those
+//! after the request where the reply was its own, and else those before it or after it. A
 //! founding or a making is then tried again: it is done, or finds that it was.
 use crate::events::{
     AMENDMENT, CONFIRMATION, COPY, ENTRY, FOUNDING, FOUNDING_FIRST, ISSUE, NO_ROWS, REVIEW,

@@ -247,7 +247,7 @@ fn run(alloc: Global, image: &Image, passed: Passed, trial: &Trial<'_>) -> Optio
 /// there is none left.
 ///
 /// # Errors
-/// So many calls were passed on in a run that ended otherwise than it may, or left what may not lie
+/// The number of calls that were passed on in a run that ended otherwise than it may, or left what may not lie
 /// there, or from which the task tried again doesn't go on.
 pub(crate) fn stop_each(
     alloc: Global,

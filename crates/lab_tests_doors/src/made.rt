@@ -6,7 +6,7 @@ use std::process::Abort;
 /// no code.
 pub(crate) type Told = (Option<&'static str>, &'static [u8]);
 
-/// The moment of so many seconds, and random words of which the first is this one.
+/// The moment of this number of seconds, and random words of which the first is this one.
 pub(crate) fn tick(rt: &impl Abort, seconds: i64, first: u64) -> Tick {
     Tick {
         moment: Moment::from_seconds(seconds).expect(rt, "a moment"),

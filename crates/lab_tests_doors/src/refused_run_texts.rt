@@ -6,7 +6,7 @@ pub(crate) const CEDAR_CARD: &[u8] = b"GET /labs/cedar HTTP/1.1\r\nHost: d\r\n\r
 
 /// Of five foundings the second and the fourth are refused. Then come an opening whose load is
 /// refused for memory, the card of no laboratory, an opening whose load the store refuses, a card
-/// whose change, which is none, is refused for memory, and the card of no laboratory again.
+/// whose empty change is refused for memory, and the card of no laboratory again.
 pub(crate) const ANSWERS: &[u8] = b"founded aqua\nrefused 90 memory\nrefused 64 lab_exists\n\
     refused 63 storage\nfounded brick\n\
     HTTP/1.1 503 Service Unavailable\r\n\
@@ -28,7 +28,7 @@ pub(crate) const ANSWERS: &[u8] = b"founded aqua\nrefused 90 memory\nrefused 64 
 /// A head that isn't in the grammar: it asks nothing, so the keeper isn't called.
 pub(crate) const NO_HEAD: &[u8] = b"x\r\n\r\n";
 
-/// That there is no laboratory, that no memory was there, that the head is none, that there is no
+/// That there is no laboratory, that no memory was there, that there is no head, that there is no
 /// laboratory again, and that the store refused.
 pub(crate) const SERVED: &[u8] =
     b"HTTP/1.1 404 Not Found\r\nDate: Thu, 01 Jan 1970 00:01:40 GMT\r\n\

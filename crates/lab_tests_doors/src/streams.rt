@@ -21,7 +21,7 @@ impl<'a> Read for Dripping<'a> {
     }
 }
 
-/// Keeps what it takes: so many bytes, at most three at a time. Then it fails.
+/// Keeps what it takes: this number of bytes, at most three at a time. Then it fails.
 #[derive(Drop)]
 pub(crate) struct Filling {
     pub(crate) room: usize,

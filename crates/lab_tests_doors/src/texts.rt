@@ -12,7 +12,7 @@ pub(crate) const OPEN: &[u8] =
     b"POST /labs/aqua/open HTTP/1.1\r\nHost: d\r\nContent-Length: 40\r\n\r\n\
     {\"code\":\"ann\",\"password\":\"twelve bytes\"}";
 
-/// The card is asked for by a client that waits with a byte, which is none of what it asks.
+/// The card is asked for by a client that waits with a byte, which belongs to no request.
 pub(crate) const WAITING_CARD: &[u8] =
     b"GET /labs/aqua HTTP/1.1\r\nHost: d\r\nExpect: 100-continue\r\nContent-Length: 1\r\n\r\nx";
 

@@ -15,7 +15,7 @@ use std::io::{self, Print};
 // More keys than a list has room for when it first grows.
 const KEYS: [&str; 5] = ["lead", "iron", "zinc", "tin", "gold"];
 
-/// Makes each call so many times, and prints for each the text that it gave, a word where that is more than a text, or the
+/// Makes each call this number of times, and prints for each the text that it gave, a word where that is more than a text, or the
 /// word of its fault.
 pub(crate) fn print_growths(rt: &impl Print, alloc: Global, calls: u32) -> io::Result<()> {
     for _ in 0..calls {

@@ -1,4 +1,4 @@
-//! `lab_tests_growths CALLS`: makes each call of the lower crates that takes memory so many times, for a script to refuse it memory. It
+//! `lab_tests_growths CALLS`: makes each call of the lower crates that takes memory this number of times, for a script to refuse it memory. It
 //! prints what each gave.
 #![tactic(auto)]
 

@@ -1,4 +1,4 @@
-//! A version of so many rows, and its text.
+//! A version of a number of rows, and its text.
 
 use crate::sample_results::{both, made_of, text};
 use anyhow::Result;
@@ -35,7 +35,7 @@ fn many_rows(alloc: Global, count: u32) -> Result<EntryRows> {
     Ok(EntryRows::new(rows))
 }
 
-/// A first version of so many rows.
+/// A first version of this number of rows.
 pub fn version(alloc: Global, rows: u32) -> Result<VersionParts> {
     let opened = Moment::from_seconds(1000)?;
     let place = both(text(alloc, "aqua"), text(alloc, "water"));
@@ -61,7 +61,7 @@ pub fn text_of(alloc: Global, version: Result<VersionParts>) -> Result<Vec<u8>> 
     made_of(version, |version| write_version(alloc, version))
 }
 
-/// The text of a first version of so many rows.
+/// The text of a first version of this number of rows.
 pub fn version_text(alloc: Global, rows: u32) -> Result<Vec<u8>> {
     text_of(alloc, version(alloc, rows))
 }

@@ -1,5 +1,5 @@
-//! What is told of a laboratory that is loaded in two slices, a line for each thing: words, behind
-//! each of which stands a bar.
+//! What is printed of a laboratory that is loaded in two slices, a line for each thing: words, each
+//! with a bar after it.
 use itoa::Buffer;
 use lab_forms_texts::OutOfMemory;
 use lab_records_kept::{Moment, Password, Person, Role, Roles, Session, Slice, TrailRow};

@@ -1,5 +1,5 @@
-//! The texts of schema 2, by which a file of it is made, and by which rows are carried into it out
-//! of a file of today's.
+//! The texts of schema 2, which make a file of it, and carry rows into it out of a file of
+//! today's.
 
 /// The tables, and the row that names the schema.
 pub(crate) const OLD_TABLES: &str = "\

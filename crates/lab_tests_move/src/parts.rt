@@ -14,7 +14,7 @@ pub(crate) fn text<R: TextRule>(rt: &(impl Abort + AllocGlobal), text: &str) -> 
     Text::parse(rt.alloc(), text).expect(rt, "a text that its rule admits")
 }
 
-/// So many seconds.
+/// This number of seconds.
 pub(crate) fn moment(rt: &impl Abort, seconds: i64) -> Moment {
     Moment::from_seconds(seconds).expect(rt, "a moment")
 }

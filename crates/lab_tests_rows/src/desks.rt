@@ -33,7 +33,7 @@ pub fn database_of<S: Alter + Drop>(desk: Desk<Store<S>>) -> Connection<S> {
     desk.into_keeper().into_connection()
 }
 
-/// The part of a laboratory that is needed; none where there is no such laboratory, or it wasn't
+/// The part of a laboratory that is needed; `None` if no laboratory has the code, or it wasn't
 /// read.
 pub fn part<S: Alter + Drop>(
     alloc: Global,

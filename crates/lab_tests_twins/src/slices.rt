@@ -1,4 +1,4 @@
-//! All that a slice of a laboratory has, as a text: behind each thing stands a bar.
+//! All that a slice of a laboratory has, as a text: each thing with a bar after it.
 use lab_forms_texts::OutOfMemory;
 use lab_records_kept::{
     Ask, FormVersion, FoundRecord, Password, Person, Record, Signature, Slice, TrailRow, Version,

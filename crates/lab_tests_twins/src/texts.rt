@@ -23,7 +23,7 @@ pub(crate) const ZINC_CARD_REPLY: &[u8] =
     Content-Type: application/json\r\nContent-Length: 32\r\nConnection: close\r\n\r\n\
     {\"lab\":\"zinc\",\"name\":\"Aqua Lab\"}";
 
-/// Where there is no laboratory of the code.
+/// If no laboratory has the code.
 pub(crate) const NO_SUCH_LAB_REPLY: &[u8] =
     b"HTTP/1.1 404 Not Found\r\nDate: Thu, 01 Jan 1970 00:01:40 GMT\r\n\
     Content-Type: application/json\r\nContent-Length: 35\r\nConnection: close\r\n\r\n\

@@ -6,7 +6,7 @@ use Rattle.lab_program.proofs.laboratories.copy_range.Goals as goal
 
 pub returns-in-Err : goal.returns-in-Err
 returns-in-Err g c =
-    declined _ _ _ _ _ _ (no_copying _ _ _ _ _ _ _ _ _ _ (inl tt))
+    declined _ _ _ _ _ _ (no_copying _ _ _ _ _ _ _ _ _ _ _ (inl tt))
     c.args.lab.now c.in-Err.fault c.in-Err.ensures.fault
     (Keeps-refl _, rw c.word.ensures at c.decline-status.ensures)
 

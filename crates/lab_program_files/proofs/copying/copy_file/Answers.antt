@@ -18,6 +18,7 @@ returns-clause-copies g c = (
     given = c.in-Ok-moment.ensures.given;
     text = c.copy_out-ending.ensures.text;
     fault = c.copy_out-ending.ensures.fault;
+    cause = c.copy_out-ending.ensures.cause;
     read = c.copy_out-ending.ensures.read;
   },
   ap Some (c.new-2.ensures ∙ c.into_connection-left.ensures.same),

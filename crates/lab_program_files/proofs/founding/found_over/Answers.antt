@@ -35,7 +35,7 @@ returns-in_err-founding_noted-clause-ends g c =
       crash = c.found-founded.ensures.founds.crash honest reached;
       quiet = (rw refused at c.found-founded.ensures.founds.quiet) honest reached;
       stays = c.found-founded.ensures.founds.stays honest reached;
-    }))
+    }) (rw refused at c.found-founded.ensures.founds.cause))
 
 pub returns-in_err-founding_noted-clause-prints : goal.returns-in_err-founding_noted-clause-prints
 returns-in_err-founding_noted-clause-prints g c =

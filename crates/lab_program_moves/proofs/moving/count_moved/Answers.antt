@@ -21,6 +21,7 @@ returns g c = (
   record {
     owed = c.migrate-ending.ensures.owed;
     durable = c.migrate-ending.ensures.durable c.requires.blank;
+    cause = c.migrate-ending.ensures.cause;
   },
   ap Some c.new.ensures,
 )
