@@ -13,7 +13,8 @@ use Rattle.lab_store_tables.specs.ByRules.{IsByRules}
 use Rattle.lab_move_tables.specs.OldSheets.{said_in}
 use Rattle.lab_move_tables.specs.Olders.{layout_of, schema_of}
 use Rattle.lab_move_tables.specs.declared.older.Older.{Older}
-pub use Rattle.lab_move_tables.specs.OldSheets.{old_rounds, beside}
+pub use Rattle.lab_people_access.specs.Passwords.{old_rounds}
+pub use Rattle.lab_move_tables.specs.OldSheets.{beside}
 
 abbrev pub reason_in : Value → Option (List ℕ)
 reason_in value = said_in (optional_in bytes value)

@@ -5,14 +5,11 @@
 -- 10,000 (21 CFR 11.10(e), "record changes shall not obscure previously recorded information"; the
 -- PBKDF2 iteration count of NIST SP 800-132, 5.2, belongs to each verifier).
 use Rattle.std.specs.Prelude.{ℕ, ℤ, false, List, [], ◌∷◌, Option, Some, None, option_map, codes}
+use Rattle.lab_people_access.specs.Passwords.{old_rounds}
 use Rattle.lab_store_tables.specs.RowRecords.{PersonRow, FormRow, VersionRow, EntryRow, SignatureRow}
 use Rattle.lab_store_tables.specs.Sheets.{Number, Flag, Words, Octets, Sheet, Cells}
 use Rattle.lab_store_tables.specs.Descriptions.{given, perhaps, leads, leads_perhaps, entries, entry_make, signatures, signature_make}
 use Rattle.lab_store_tables.specs.Family.{Persons, Forms, Versions, Entries, Signatures, Layout, kept}
-
--- the rounds of every verifier
-abbrev pub old_rounds : ℕ
-old_rounds = 10000
 
 -- what there is of the second half, where there is one
 abbrev pub beside : {A B : Type 0} → Option A → Option B → Option B

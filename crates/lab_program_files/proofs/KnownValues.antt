@@ -5,13 +5,19 @@ use Rattle.sqlite_disk.specs.declared.Disk.{Ghosts as DiskOf}
 use Rattle.sqlite_wal.proofs.LogLemmas.{SeenMayStay}
 use Rattle.sqlite_wal.specs.Files.{seen_image}
 use Rattle.sqlite_wal.specs.Reads.{AreClean}
+use Rattle.sqlite_wal.specs.Recovery.{Image}
 use Rattle.sqlite_store.specs.declared.store.FileStore.{FileStore}
+use Rattle.sqlite.specs.Files.{file_state, over_files}
 use Rattle.sqlite.specs.Held.{Held}
+use Rattle.sqlite.specs.State.{HasCleanDisk}
+use Rattle.lab_records_keeper.specs.Worlds.{Meaning}
 use Rattle.lab_program_opening.specs.Ends.{IsLeftWhole}
 use Rattle.lab_program_host.specs.declared.faults.ServerFault.TheVariants.{Write, Memory}
 use Rattle.lab_program_host.specs.declared.faults.RehearsalFault.TheVariants.{Server}
 use Rattle.lab_program_host.specs.Sources.{IsDrawn, drawing_of}
+use Rattle.lab_program_files.specs.FileWorlds.{file_world}
 use Rattle.lab_program_files.specs.Foundings.{Prints}
+use Rattle.lab_program_files.specs.Histories.{Begins, Copied, IsHistory, Work}
 use Rattle.lab_program_files.specs.Stops.{Lies}
 
 -- the whole line, or a part where the output failed; where memory ran out, nothing
@@ -54,3 +60,27 @@ known_closed {g} stays last whole clean = (
     ),
   ),
 )
+
+-- a copy out of a file, over which a history begins, is a history of one task
+abbrev copying : {D : Type 0} {g : DiskOf D} → Image → Held (FileStore D g) → Work D g
+copying held opened = record { task = Copied; held = held; opened = opened; last = opened }
+
+pub known_history : {D : Type 0} {g : DiskOf D} (held : Image) (opened : Held (FileStore D g))
+    (first left : Meaning) → Begins first (copying held opened) → HasCleanDisk (file_state opened)
+    → (file_world over_files opened).may_leave left → IsHistory first (copying held opened) [] left
+known_history held opened first left begins clean may = record {
+  begins = begins;
+  done = record {
+    does = λ within honest reached. record {
+      same = λ honest reached live code. refl;
+      rested = λ honest reached live. refl;
+      quiet = λ honest reached live held left. left;
+      safe = λ honest reached live safe. safe;
+      reached = λ honest reached. reached;
+      passes = record { honest = λ h. h; live = λ h l. l; refusing = λ m. m };
+    };
+    passes = record { honest = λ h. h; live = λ h l. l; refusing = λ m. m };
+  };
+  honest = clean;
+  may = may;
+}

@@ -1,6 +1,6 @@
--- Why a call that reads returns the fault of the store: the disk had a fault in the call, the connection
--- was shut before it, or the steps of the connection had a limit before the call and have one after it. (A row that isn't readable is another cause, which each
--- reader names.)
+-- Why a call that reads returns the fault of the store: the disk had a fault in the call, the
+-- connection was shut before it, or the steps of the connection had a limit before the call and have
+-- one after it. (A row that isn't readable is another cause, which each reader names.)
 use Rattle.std.specs.Prelude.{◌≡◌, ◌⊎◌, List, Result, slice_get, IfErr, IfSome, IsFalse, IsSome}
 use Rattle.sqlite_value.specs.Order.{Row}
 use Rattle.sqlite.specs.State.{State, HasCleanDisk}

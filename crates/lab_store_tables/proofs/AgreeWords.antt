@@ -1,4 +1,5 @@
--- Definitions for proofs only, which belong to specs/Agree.antt: no clause names them.
+-- Two files agree on a laboratory where it is the same in both, whatever else they hold and under
+-- whichever ids. These definitions are for proofs only: no clause names them.
 use Rattle.std.specs.Prelude.{◌≡◌, ℕ, List}
 use Rattle.lab_store_tables.specs.Rows.{Tables}
 use Rattle.lab_store_tables.specs.Meaning.{meaning}

@@ -3,9 +3,9 @@ use Rattle.std.proofs.Common.{◌≡◌, ◌+◌, Bool, true, false, [], ◌∷�
 use Rattle.sqlite_value.specs.declared.value.Value.{Value}
 use Rattle.sqlite_value.specs.Order.{Row, column}
 use Rattle.lab_store_tables.specs.Values.{optional_in}
-use Rattle.lab_store_tables.specs.Sheets.{Kind, Id, Number, Flag, Words, Octets, Held, HeldIn, write, read, write_in, read_in, Described, Cells, row_of, cells_at}
+use Rattle.lab_store_tables.specs.Sheets.{Content, Id, Number, Flag, Words, Octets, Held, HeldIn, write, read, write_in, read_in, Described, Cells, row_of, cells_at}
 
-read_one : (kind : Kind) (x : Held kind) → read kind (write kind x) ≡ x
+read_one : (kind : Content) (x : Held kind) → read kind (write kind x) ≡ x
 read_one Id n = refl
 read_one Number n = refl
 read_one Flag true = refl
@@ -13,7 +13,7 @@ read_one Flag false = refl
 read_one Words t = refl
 read_one Octets b = refl
 
-read_some : (kind : Kind) (x : Held kind) → optional_in (read kind) (write kind x) ≡ Some x
+read_some : (kind : Content) (x : Held kind) → optional_in (read kind) (write kind x) ≡ Some x
 read_some Id n = refl
 read_some Number n = refl
 read_some Flag true = refl
@@ -21,7 +21,7 @@ read_some Flag false = refl
 read_some Words t = refl
 read_some Octets b = refl
 
-back_in : (needed : Bool) (kind : Kind) (x : HeldIn needed kind) → read_in needed kind (write_in needed kind x) ≡ x
+back_in : (needed : Bool) (kind : Content) (x : HeldIn needed kind) → read_in needed kind (write_in needed kind x) ≡ x
 back_in true kind x = read_one kind x
 back_in false kind None = refl
 back_in false kind (Some x) = read_some kind x

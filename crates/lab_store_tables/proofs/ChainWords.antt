@@ -1,4 +1,5 @@
--- Definitions for proofs only, which belong to specs/Chain.antt: no clause names them.
+-- Versions of a record by their own rows, as rows are added: what stands at the end of a chain of
+-- them, and a row or a signature more. These definitions are for proofs only: no clause names them.
 use Rattle.std.specs.Prelude.{ℕ, ◌==◌, Bool, List, [], ◌∷◌, ◌++◌, Option, Some}
 use Rattle.lab_seal_versions.specs.declared.rows.EntryRow.{EntryRow}
 use Rattle.lab_records_kept.specs.declared.records.Record.{Record}

@@ -3,9 +3,9 @@ use Rattle.std.specs.Prelude.{ℕ, ◌+◌, ◌/◌, ◌%◌, Bool, not, ◌&&�
 use Rattle.std.specs.List.{list_any}
 use Rattle.sqlite_value.specs.declared.value.Value.TheVariants.{Null}
 use Rattle.sqlite_sql.specs.Term.{Term, lit, col}
-use Rattle.lab_store_tables.specs.Sheets.{Kind, Described, Sheet, names, Id, Number, Flag, Words, Octets}
+use Rattle.lab_store_tables.specs.Sheets.{Content, Described, Sheet, names, Id, Number, Flag, Words, Octets}
 
-abbrev pub kind_word : Kind → List ℕ
+abbrev pub kind_word : Content → List ℕ
 kind_word Id = codes "INTEGER"
 kind_word Number = codes "INTEGER"
 kind_word Flag = codes "INTEGER"

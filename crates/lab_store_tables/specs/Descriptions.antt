@@ -1,12 +1,12 @@
 -- The twelve tables, each described once.
 use Rattle.std.specs.Prelude.{ℕ, ℤ, true, false, List, [], ◌∷◌, Some, None, codes}
 use Rattle.lab_store_tables.specs.RowRecords.{DeskRow, LabRow, PersonRow, SessionRow, FormRow, FieldRow, ChoiceRow, RecordRow, VersionRow, EntryRow, SignatureRow, TrailRow}
-use Rattle.lab_store_tables.specs.Sheets.{Kind, Id, Number, Flag, Words, Octets, Described, Sheet, Cells}
+use Rattle.lab_store_tables.specs.Sheets.{Content, Id, Number, Flag, Words, Octets, Described, Sheet, Cells}
 
-abbrev pub given : List ℕ → Kind → Described
+abbrev pub given : List ℕ → Content → Described
 given name kind = record { name = name; kind = kind; needed = true; leads = None }
 
-abbrev pub perhaps : List ℕ → Kind → Described
+abbrev pub perhaps : List ℕ → Content → Described
 perhaps name kind = record { name = name; kind = kind; needed = false; leads = None }
 
 -- an id of the parent's

@@ -1,6 +1,4 @@
-pub mod Agree
 pub mod ByRules
-pub mod Chain
 pub mod Changes
 pub mod Columns
 pub mod Descriptions

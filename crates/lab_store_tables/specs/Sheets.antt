@@ -1,5 +1,5 @@
--- A table as a list of columns, and what follows from it: the texts of CREATE and of INSERT, the table in
--- the schema, and a row as it is written and read (ISO/IEC 9075-2, table definitions).
+-- A table as a list of columns, and what follows from it: the table in the schema, and a row as it is
+-- written and read (ISO/IEC 9075-2, table definitions).
 use Rattle.std.specs.Prelude.{ℕ, ℤ, ◌+◌, Bool, true, false, List, [], ◌∷◌, map, Option, Some, None, bytes_eq, codes, if◌then◌else◌}
 use Rattle.sqlite_value.specs.declared.keys.Collation.TheVariants.{Binary}
 use Rattle.sqlite_value.specs.declared.keys.Order.{Order}
@@ -18,14 +18,14 @@ use Rattle.lab_store_tables.specs.Values.{number, flag, optional, number_in, fla
 
 -- ---- what a column holds
 
-pub data Kind : Type 0 where
-  Id : Kind
-  Number : Kind
-  Flag : Kind
-  Words : Kind
-  Octets : Kind
+pub data Content : Type 0 where
+  Id : Content
+  Number : Content
+  Flag : Content
+  Words : Content
+  Octets : Content
 
-abbrev pub Held : Kind → Type 0
+abbrev pub Held : Content → Type 0
 Held Id = ℤ
 Held Number = ℕ
 Held Flag = Bool
@@ -33,33 +33,33 @@ Held Words = List ℕ
 Held Octets = List ℕ
 
 -- always filled, or with NULL where there is none
-abbrev pub HeldIn : Bool → Kind → Type 0
+abbrev pub HeldIn : Bool → Content → Type 0
 HeldIn true kind = Held kind
 HeldIn false kind = Option (Held kind)
 
-abbrev pub write : (kind : Kind) → Held kind → Value
+abbrev pub write : (kind : Content) → Held kind → Value
 write Id n = Int n
 write Number n = number n
 write Flag b = flag b
 write Words t = Text t
 write Octets b = Blob b
 
-abbrev pub read : (kind : Kind) → Value → Held kind
+abbrev pub read : (kind : Content) → Value → Held kind
 read Id v = id_in v
 read Number v = number_in v
 read Flag v = flag_in v
 read Words v = bytes v
 read Octets v = bytes v
 
-abbrev pub write_in : (needed : Bool) (kind : Kind) → HeldIn needed kind → Value
+abbrev pub write_in : (needed : Bool) (kind : Content) → HeldIn needed kind → Value
 write_in true kind = write kind
 write_in false kind = optional (write kind)
 
-abbrev pub read_in : (needed : Bool) (kind : Kind) → Value → HeldIn needed kind
+abbrev pub read_in : (needed : Bool) (kind : Content) → Value → HeldIn needed kind
 read_in true kind = read kind
 read_in false kind = optional_in (read kind)
 
-abbrev pub stored_kind : Kind → stored.Kind
+abbrev pub stored_kind : Content → stored.Kind
 stored_kind Id = kinds.Integer
 stored_kind Number = kinds.Integer
 stored_kind Flag = kinds.Integer
@@ -70,7 +70,7 @@ stored_kind Octets = kinds.Blob
 
 pub record Described : Type 0 where
   pub name : List ℕ
-  pub kind : Kind
+  pub kind : Content
   pub needed : Bool
   pub leads : Option (List ℕ)
 
@@ -161,5 +161,3 @@ abbrev pub table_of : Sheet → Table
 table_of sheet =
     table sheet.name sheet.tree (map column_in sheet.columns)
     (map (map (place_from 2 (names sheet.columns))) sheet.uniques) (arrows 2 sheet.columns)
-
--- ---- texts

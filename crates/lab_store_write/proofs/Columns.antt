@@ -6,7 +6,7 @@ use Rattle.sqlite_rules.specs.Cast.{cast, cast_all, cast_row}
 use Rattle.lab_store_tables.specs.Values.{number, flag, optional}
 use Rattle.lab_store_tables.specs.Family.{Name, RowOf, kept, id_of}
 use Rattle.lab_store_tables.proofs.FamilyWords.{stored_row, table_in}
-use Rattle.lab_store_tables.specs.Sheets.{Kind, Id, Number, Flag, Words as InWords, Octets, Held, HeldIn, write, write_in, stored_kind, Described, Sheet, Cells, row_of, column_in, table_of}
+use Rattle.lab_store_tables.specs.Sheets.{Content, Id, Number, Flag, Words as InWords, Octets, Held, HeldIn, write, write_in, stored_kind, Described, Sheet, Cells, row_of, column_in, table_of}
 use Rattle.lab_store_write.proofs.Writes.{cast_int, cast_null}
 
 pub cast_flag : (one : Bool) → cast Integer (flag one) ≡ flag one
@@ -31,21 +31,21 @@ cast_blob (Some bytes) = refl
 
 -- ---- all columns of a table
 
-cast_one : (kind : Kind) (x : Held kind) → cast (stored_kind kind) (write kind x) ≡ write kind x
+cast_one : (kind : Content) (x : Held kind) → cast (stored_kind kind) (write kind x) ≡ write kind x
 cast_one Id n = cast_int n
 cast_one Number n = cast_int (pos n)
 cast_one Flag b = cast_flag b
 cast_one InWords t = refl
 cast_one Octets b = refl
 
-cast_none : (kind : Kind) → cast (stored_kind kind) Null ≡ Null
+cast_none : (kind : Content) → cast (stored_kind kind) Null ≡ Null
 cast_none Id = cast_null
 cast_none Number = cast_null
 cast_none Flag = cast_null
 cast_none InWords = refl
 cast_none Octets = refl
 
-cast_in : (needed : Bool) (kind : Kind) (x : HeldIn needed kind) → cast (stored_kind kind) (write_in needed kind x) ≡ write_in needed kind x
+cast_in : (needed : Bool) (kind : Content) (x : HeldIn needed kind) → cast (stored_kind kind) (write_in needed kind x) ≡ write_in needed kind x
 cast_in true kind x = cast_one kind x
 cast_in false kind None = cast_none kind
 cast_in false kind (Some x) = cast_one kind x

@@ -1,2 +1,0 @@
--- Two files agree on a laboratory where it is the same in both, whatever else they hold and under
--- whichever ids.

@@ -1,2 +1,0 @@
--- Versions of a record by their own rows, as rows are added: what stands at the end of a chain of
--- them, and a row or a signature more.
