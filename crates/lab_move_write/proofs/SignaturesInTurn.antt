@@ -1,5 +1,5 @@
 -- Signatures that are added in turn to one version stand in it in turn, behind those that it has, and no other version sees one.
-use Rattle.std.proofs.Common.{◌≡◌, ◌≤◌, ◌<◌, ℕ, ◌+◌, ℤ, Bool, true, false, cond, List, [], ◌∷◌, ◌++◌, filter, length, Some, refl, sym, ap, subst, ◌∙◌, int_eq, append_assoc, append-nil, arith}
+use Rattle.std.proofs.Common.{◌≡◌, ◌≤◌, ◌<◌, ℕ, ◌+◌, ℤ, true, cond, List, [], ◌∷◌, ◌++◌, filter, length, Some, refl, ap, subst, ◌∙◌, int_eq, arith}
 use Rattle.sqlite_keyed.specs.Keyed.{IsKeyedBy}
 use Rattle.sqlite_keyed.proofs.ListLemmas.{all_weaker}
 use Rattle.sqlite_keyed.proofs.KeyedLemmas.{IsKeyedBy-insert_by}
@@ -8,6 +8,7 @@ use Rattle.lab_store_tables.specs.Rows.{SignatureRow, Tables, person_id, signatu
 use Rattle.lab_store_tables.specs.Meaning.{signature_in, signatures_of}
 use Rattle.lab_store_tables.specs.WellKept.{have_own_ids}
 use Rattle.lab_store_tables.specs.Changes.{IsFree, InTurn, AddsSignature, person_named, signature_row_of, put_signature}
+use Rattle.lab_store_tables.proofs.EntriesInTurn.{nothing_more, one_more}
 use Rattle.lab_store_tables.proofs.ColumnsBack.{meaning_back}
 use Rattle.lab_store_tables.proofs.LabLaws.{alike}
 use Rattle.lab_store_tables.proofs.TrailLaws.{code_named}
@@ -50,15 +51,6 @@ pub record AreSigned (version : ℤ) (signatures : List Signature) (t new : Tabl
   pub written : List SignatureRow
   pub made : new ≡ record t { signatures = written }
   pub has : (of : ℤ) → signatures_of (record t { signatures = written }) of ≡ cond (int_eq of version) (signatures_of t of ++ signatures) (signatures_of t of)
-
-nothing_more : {A : Type 0} (b : Bool) (had : List A) → had ≡ cond b (had ++ []) had
-nothing_more true had = sym (append-nil had)
-nothing_more false had = refl
-
-one_more : {A : Type 0} (b : Bool) (had now : List A) (one : A) (others : List A) → now ≡ cond b (had ++ one ∷ []) had
-    → cond b (now ++ others) now ≡ cond b (had ++ one ∷ others) had
-one_more true had now one others e = ap (λ l. l ++ others) e ∙ append_assoc had (one ∷ []) others
-one_more false had now one others e = e
 
 pub signed_in_turn : (lab version : ℤ) (signatures : List Signature) (t new : Tables) → IsKeyedBy signature_id t.signatures
     → have_own_ids person_id t.persons ≡ true → AreWithin signature_id version_of place_of version t.signatures

@@ -1,10 +1,11 @@
 -- Versions that are added in turn to one record stand in it in turn, behind those that it has, and no other record sees one.
-use Rattle.std.proofs.Common.{◌≡◌, ℕ, ◌+◌, ℤ, Bool, true, false, cond, List, [], ◌∷◌, ◌++◌, map, filter, length, refl, sym, ap, subst, ◌∙◌, int_eq, append_assoc, append-nil}
+use Rattle.std.proofs.Common.{◌≡◌, ℕ, ◌+◌, ℤ, cond, List, [], ◌∷◌, ◌++◌, map, filter, length, refl, sym, ap, subst, ◌∙◌, int_eq}
 use Rattle.lab_records_kept.specs.declared.records.Version.{Version}
 use Rattle.lab_records_kept.specs.Limits.{AreNumberedAfter}
 use Rattle.lab_store_tables.specs.Rows.{VersionRow, Tables, version_id}
 use Rattle.lab_store_tables.specs.Meaning.{leaves_of}
 use Rattle.lab_store_tables.specs.Changes.{InTurn, AddsVersion, version_row_of}
+use Rattle.lab_store_tables.proofs.EntriesInTurn.{nothing_more, one_more}
 use Rattle.lab_store_tables.proofs.LabLaws.{alike}
 use Rattle.lab_store_tables.proofs.PutRows.{count_mine}
 use Rattle.lab_store_tables.proofs.NextLaws.{AreWithin}
@@ -18,15 +19,6 @@ number_in version = version.origin.number
 pub record AreOpened (kept : ℤ) (versions : List Version) (t new : Tables) : Type 0 where
   pub rest : new ≡ record t { versions = new.versions; entries = new.entries; signatures = new.signatures }
   pub has : (of : ℤ) → leaves_of new of ≡ cond (int_eq of kept) (leaves_of t of ++ map leaf_of versions) (leaves_of t of)
-
-nothing_more : {A : Type 0} (b : Bool) (had : List A) → had ≡ cond b (had ++ []) had
-nothing_more true had = sym (append-nil had)
-nothing_more false had = refl
-
-one_more : {A : Type 0} (b : Bool) (had now : List A) (one : A) (others : List A) → now ≡ cond b (had ++ one ∷ []) had
-    → cond b (now ++ others) now ≡ cond b (had ++ one ∷ others) had
-one_more true had now one others e = ap (λ l. l ++ others) e ∙ append_assoc had (one ∷ []) others
-one_more false had now one others e = e
 
 abbrev Parts : Tables → Tables → Tables
 Parts t u = record t { versions = u.versions; entries = u.entries; signatures = u.signatures }

@@ -89,15 +89,18 @@ module _ {S : Type 0} (keeper : Ghosts S) (drawing : Drawing) (code : List ℕ) 
       Given (keeper.world old) (keeper.world new) (Lives (keeper.world old) (keeper.world new)) →
       Given (keeper.world old) (keeper.world new) (Stays (keeper.world old) (keeper.world new)) →
       Ends keeper (task_of drawing code known) old new result
-  ends_founded known read bytes old new tick result drawn same whole printed founds durable lives stays =
-      (read, known_as known read bytes same whole, λ honest reached.
-      printed_so known read old new result printed (
-        tick,
-        drawn,
-        record {
-          founds = founds honest reached;
-          durable = durable honest reached;
-          lives = lives honest reached;
-          stays = stays honest reached;
-        },
-      ))
+  ends_founded known read bytes old new tick result drawn same whole printed founds durable lives stays = (
+    read,
+    known_as known read bytes same whole,
+    λ honest reached.
+        printed_so known read old new result printed (
+          tick,
+          drawn,
+          record {
+            founds = founds honest reached;
+            durable = durable honest reached;
+            lives = lives honest reached;
+            stays = stays honest reached;
+          },
+        ),
+  )

@@ -34,12 +34,12 @@ where
     Connection<<M::Volume as Volume>::Disk>: Closable,
     ensures copies { IfOk result.ending (λ ending. CopiesTo (file_keeper M.Volume.Disk.Store)
         (file_refuses M.Volume.Disk.Store) (record {
-      moments = M.Clock.coming host.old.clock;
-      later = M.Clock.coming host.new.clock;
-      code = lab.now;
-      from = from;
-      to = to;
-    }) (IsOurs M.Volume.Disk.Store (M.Volume.file host.old.volume path.now).holds)
+          moments = M.Clock.coming host.old.clock;
+          later = M.Clock.coming host.new.clock;
+          code = lab.now;
+          from = from;
+          to = to;
+        }) (IsOurs M.Volume.Disk.Store (M.Volume.file host.old.volume path.now).holds)
         (W.contents output.old) (W.contents output.new) ending result.finished) }
     ensures unbegun { IfErr result.ending
         (λ _. Keeps (W.contents output.old) (W.contents output.new)) }

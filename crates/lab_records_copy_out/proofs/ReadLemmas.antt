@@ -75,9 +75,9 @@ shuts_on world rests first next last one other early late = λ honest reached.
         | inl still ↦ elim (after.cause still) [
           | inl yet ↦ inl yet
           | inr faulted ↦ inr (faulted_since (world first).faults (world next).faults
-          (world last).faults before.counts faulted)
+              (world last).faults before.counts faulted)
         ]
         | inr faulted ↦ inr (faulted_later (world first).faults (world next).faults
-        (world last).faults faulted after.counts)
+            (world last).faults faulted after.counts)
       ];
     }

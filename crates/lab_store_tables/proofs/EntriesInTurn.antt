@@ -46,11 +46,13 @@ pub record AreEntered (version : ℤ) (rows : List Entry) (t new : Tables) : Typ
   pub made : new ≡ record t { entries = written }
   pub has : (of : ℤ) → entries_of (record t { entries = written }) of ≡ cond (int_eq of version) (entries_of t of ++ rows) (entries_of t of)
 
-nothing_more : {A : Type 0} (b : Bool) (had : List A) → had ≡ cond b (had ++ []) had
+-- ---- what is added to a list or isn't, by whether it is meant
+
+pub nothing_more : {A : Type 0} (b : Bool) (had : List A) → had ≡ cond b (had ++ []) had
 nothing_more true had = sym (append-nil had)
 nothing_more false had = refl
 
-one_more : {A : Type 0} (b : Bool) (had now : List A) (one : A) (others : List A) → now ≡ cond b (had ++ one ∷ []) had
+pub one_more : {A : Type 0} (b : Bool) (had now : List A) (one : A) (others : List A) → now ≡ cond b (had ++ one ∷ []) had
     → cond b (now ++ others) now ≡ cond b (had ++ one ∷ others) had
 one_more true had now one others e = ap (λ l. l ++ others) e ∙ append_assoc had (one ∷ []) others
 one_more false had now one others e = e
