@@ -12,7 +12,6 @@ mod naming;
 mod placing;
 mod placing_laws;
 mod progress;
-mod rows;
 mod schemas;
 mod texts;
 

@@ -18,10 +18,10 @@ ghost use Rattle.lab_move_write.specs.Carrying.{Carries};
 use crate::Inside;
 use crate::kinds::add_kinds;
 use crate::progress::MoveProgress;
-use crate::rows::add_lab;
 use lab_records_kept::Lab;
 use lab_store_read::{ReadFault, read_fault};
 use lab_store_write::Writable;
+use lab_store_write_changes::add_lab;
 use sqlite::{Alter, Connection, Error, Transaction};
 
 // Adds the laboratory's row, and then all that it has.

@@ -25,6 +25,6 @@ pub use entries::enter_row;
 pub use forms::add_form;
 pub use newborns::{is_asked, laboratory};
 pub use records::add_record;
-pub use rows::add_rows;
+pub use rows::{add_lab, add_rows};
 pub use signatures::sign_version;
 pub use versions::open_version;

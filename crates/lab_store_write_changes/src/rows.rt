@@ -16,11 +16,12 @@ use lab_store_write::values::{count_value, moment_value, text_value};
 use lab_store_write::{RowId, Writable, add_person, add_told};
 use sqlite::Error;
 
-// Adds the laboratory's row, and returns its id.
-//
-// # Errors
-// The errors of `Writable`, or the number is too great for the store.
-fn add_lab<W: Writable>(tx: &mut W, lab: &Lab) -> Result<RowId, Error>
+/// Adds the laboratory's row, and returns its id. No number is given yet: its counters follow what
+/// is added.
+///
+/// # Errors
+/// Those of `Writable`, and a number of strays that is too great for the store.
+pub fn add_lab<W: Writable>(tx: &mut W, lab: &Lab) -> Result<RowId, Error>
     ensures writes { AnswersUnless (λ _. IsTooGreat lab.now.strays) W.lender W.state
         (λ one. AddsLab one.id lab.now) tx.old tx.new result }
     // The database then keeps its own rules, whatever it did before:
