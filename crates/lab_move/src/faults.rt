@@ -2,6 +2,7 @@
 
 ghost use Rattle.std.specs.Prelude.{◌≡◌, Some};
 ghost use Rattle.lab_move.specs.Faults.{move_fault_entry, read_told};
+ghost use Rattle.lab_move.specs.declared.faults.MoveFault.TheVariants.{File};
 
 use lab_forms_texts::LabCode;
 use lab_store_files::FileFault;
@@ -59,7 +60,25 @@ impl fmt::Display for MoveFault {
     }
 }
 
-/// The fault of a move that a fault of reading or writing rows becomes.
+/// For one of the two files that refused.
+impl From<FileFault> for MoveFault {
+    ghost from_gives = { λ fault gives. gives ≡ File fault };
+
+    fn from(fault: FileFault) -> MoveFault {
+        MoveFault::File(fault)
+    }
+}
+
+/// For rows that weren't read or written.
+impl From<ReadFault> for MoveFault {
+    ghost from_gives = { λ fault gives. gives ≡ File (read_told fault) };
+
+    fn from(fault: ReadFault) -> MoveFault {
+        MoveFault::File(store_fault(fault))
+    }
+}
+
+/// The fault of a file that a fault of reading or writing rows becomes.
 pub(crate) fn store_fault(fault: ReadFault) -> FileFault
     ensures { result ≡ read_told fault }
 {

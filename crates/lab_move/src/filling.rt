@@ -26,7 +26,7 @@ ghost use Rattle.lab_move.specs.Counting.{HasAsMany};
 ghost use Rattle.lab_move.specs.Moving.{Blames, BlamesFirst, BlamesFirstOfAll, CarriesFrom, Fills, FillsAll, HasThese, AreCounted, IsBegun, ReadsOldAs, IsSoundIn, IsSoundLab, IsUnsoundIn, IsWhole, IsWholeOf};
 
 use crate::counting::compare_counts;
-use crate::faults::{MoveFault, store_fault};
+use crate::faults::MoveFault;
 use crate::testing::{not_sound, test_lab};
 use lab_forms_texts::LabCode;
 use lab_move_read::{KeptFault, codes, whole};
@@ -53,10 +53,8 @@ fn place_tried<T: Alter, P: MoveProgress>(
         IfErr result (λ fault. fault ≡ File Storage →
         IsUnwritten T.Store lab.now new.old new.new) }
 {
-    match place_lab(new, lab, progress) {
-        Ok(()) => Ok(()),
-        Err(fault) => Err(MoveFault::File(store_fault(fault))),
-    }
+    place_lab(new, lab, progress)?;
+    Ok(())
 }
 
 // Tries a laboratory that was read, and places it.
@@ -78,10 +76,8 @@ fn place_sound<T: Alter, P: MoveProgress>(
         IfErr result (λ fault. fault ≡ File Storage →
         IsUnplaced T.Store lab.now new.old new.new) }
 {
-    match test_lab(alloc, code, lab) {
-        Ok(()) => place_tried(new, lab, progress),
-        Err(fault) => Err(fault),
-    }
+    test_lab(alloc, code, lab)?;
+    place_tried(new, lab, progress)
 }
 
 // Places a laboratory that was read, where there is one.
@@ -187,10 +183,8 @@ fn finish_with<T: Alter>(new: &mut Connection<T>, codes: &[LabCode]) -> Result<u
     ensures fault { IfErr result (Blames (λ _. ⊥)) }
     ensures cause { NamingEndsForCause T.Store (λ fault. fault ≡ File Storage) new.old new.new result }
 {
-    match finish(new) {
-        Ok(()) => Ok(codes.len() as u64),
-        Err(fault) => Err(MoveFault::File(store_fault(fault))),
-    }
+    finish(new)?;
+    Ok(codes.len() as u64)
 }
 
 // Names the schema of the new file, where no row of the old one was left behind.
@@ -212,10 +206,8 @@ fn finish_compared<D: Readable, T: Alter>(
         HasCleanDisk (state T.Store new.new) → IfErr result (λ fault. fault ≡ File Storage →
         IsMoveUnfinished T.Store (D.state old.old) (D.state old.new) new.old new.new) }
 {
-    match compare_counts(old, new) {
-        Ok(()) => finish_with(new, codes),
-        Err(fault) => Err(MoveFault::File(fault)),
-    }
+    compare_counts(old, new)?;
+    finish_with(new, codes)
 }
 
 // Moves the laboratories of the codes, and finishes the new file.
@@ -241,10 +233,8 @@ fn move_all<D: Readable, T: Alter, P: MoveProgress>(
         StopsAtLab D.state T.Store older codes.now old.old old.new new.old new.new
         ⊎ StopsAtEnd D.state T.Store older codes.now old.old old.new new.old new.new) }
 {
-    match move_each(alloc, old, older, new, codes, progress) {
-        Ok(()) => finish_compared(old, new, codes),
-        Err(fault) => Err(fault),
-    }
+    move_each(alloc, old, older, new, codes, progress)?;
+    finish_compared(old, new, codes)
 }
 
 /// Fills a new file with all laboratories of an old one, by a commit for each, and finishes it by
@@ -274,8 +264,6 @@ pub(crate) fn fill<D: Readable, T: Alter, P: MoveProgress>(
         HasCleanDisk (state T.Store new.new) → IfErr result (λ fault. fault ≡ File Storage →
         IsFillingRefused D.state T.Store older old.old old.new new.old new.new) }
 {
-    match codes(alloc, old) {
-        Ok(codes) => move_all(alloc, old, older, new, codes.as_slice(), progress),
-        Err(fault) => Err(MoveFault::File(store_fault(fault))),
-    }
+    let codes = codes(alloc, old)?;
+    move_all(alloc, old, older, new, codes.as_slice(), progress)
 }

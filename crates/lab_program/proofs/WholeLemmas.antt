@@ -28,7 +28,7 @@ front_says : (bytes : List ℕ) → founding_in (take 1000001 bytes) ≡ foundin
 front_says bytes = said_by_front 1000001 bytes (lit< tt)
 
 -- the input of which these bytes were read, where it is known; and else these bytes
-whole_of : Option (List ℕ) → List ℕ → List ℕ
+abbrev whole_of : Option (List ℕ) → List ℕ → List ℕ
 whole_of None read = read
 whole_of (Some bytes) read = bytes
 
