@@ -153,6 +153,9 @@ def main():
     watcher.join()
     said = text_of(sys.argv[1])
     last = said.splitlines()[-1]
+    for line in said.splitlines():
+        if line.startswith("FAILED "):
+            print(line, file=sys.stderr)
     children = resource.getrusage(resource.RUSAGE_CHILDREN)
     used = children.ru_utime + children.ru_stime
     wall = time.time() - began
