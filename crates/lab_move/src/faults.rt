@@ -60,7 +60,7 @@ impl fmt::Display for MoveFault {
     }
 }
 
-/// For one of the two files that refused.
+/// For a fault of the old or the new file.
 impl From<FileFault> for MoveFault {
     ghost from_gives = { λ fault gives. gives ≡ File fault };
 
@@ -69,7 +69,7 @@ impl From<FileFault> for MoveFault {
     }
 }
 
-/// For rows that weren't read or written.
+/// For a fault of reading or writing rows.
 impl From<ReadFault> for MoveFault {
     ghost from_gives = { λ fault gives. gives ≡ File (read_told fault) };
 
@@ -78,7 +78,7 @@ impl From<ReadFault> for MoveFault {
     }
 }
 
-/// The fault of a file that a fault of reading or writing rows becomes.
+/// A fault of reading or writing rows, as a fault of a file.
 pub(crate) fn store_fault(fault: ReadFault) -> FileFault
     ensures { result ≡ read_told fault }
 {

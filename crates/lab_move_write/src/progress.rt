@@ -4,10 +4,10 @@ use lab_forms_texts::LabCode;
 
 /// Who hears how far a move is.
 pub trait MoveProgress {
-    /// The laboratory is moved next; of all laboratories this number was moved before it.
+    /// The laboratory is moved next: `done` of `all` were moved before it.
     fn tell_lab(&mut self, lab: &LabCode, done: usize, all: usize);
 
-    /// Of all records of the laboratory this number is written.
+    /// `done` of the laboratory's `all` records are written.
     fn tell_records(&mut self, done: usize, all: usize);
 }
 

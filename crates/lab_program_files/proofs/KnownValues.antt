@@ -1,4 +1,5 @@
--- Values from outside, computed on the definitions: small instances of what a founding printed and of a tick that was drawn.
+-- Values from outside, computed on the definitions: small instances of what a founding printed, of a tick that was drawn, of what a
+-- close leaves, and of a history.
 use Rattle.std.proofs.Common.{codes, lit<, refl, ap, ℕ, List, [], ◌∷◌, true≢false, Some, Ok, Err, inl, inr}
 use Rattle.std.specs.Str.{bytes_eq}
 use Rattle.sqlite_disk.specs.declared.Disk.{Ghosts as DiskOf}
@@ -61,10 +62,11 @@ known_closed {g} stays last whole clean = (
   ),
 )
 
--- a copy out of a file, over which a history begins, is a history of one task
+-- a copy that left the connection as it was opened
 abbrev copying : {D : Type 0} {g : DiskOf D} → Image → Held (FileStore D g) → Work D g
 copying held opened = record { task = Copied; held = held; opened = opened; last = opened }
 
+-- over a file with which a history begins, it is a history of one task
 pub known_history : {D : Type 0} {g : DiskOf D} (held : Image) (opened : Held (FileStore D g))
     (first left : Meaning) → Begins first (copying held opened) → HasCleanDisk (file_state opened)
     → (file_world over_files opened).may_leave left → IsHistory first (copying held opened) [] left

@@ -2,7 +2,7 @@
 use Rattle.std.specs.Prelude.{◌≡◌, ◌⊎◌, ℕ, List, [], ◌∷◌, Option, Some, None, Result, IfErr, IfOk, IsSome}
 use Rattle.std.specs.Io.KnownBytes.{Keeps}
 use Rattle.lab_records_keeper.specs.declared.keeper.Keeper.{Ghosts}
-use Rattle.lab_records_keeper.specs.Worlds.{Given}
+use Rattle.lab_records_keeper.specs.Worlds.{Given, Shuts}
 use Rattle.lab_program_host.specs.Sources.{GivesInOrder}
 use Rattle.lab_program_host.specs.TaskEnds.{TaskEnd}
 use Rattle.lab_copy_rows.specs.Outs.{Sends}
@@ -46,10 +46,13 @@ module _ {S : Type 0} (keeper : Ghosts S) (refuses : Refusing S) (task : CopyTas
         (keeper.world old).may_refuse
         (Given (keeper.world old) (keeper.world new)
         (IsSome ((keeper.world old).meaning task.code))))
-    -- the store refused it for this cause
+    -- where the store refused it, why
     pub cause : IfErr ending (CopyFaultFits (Unit {0})
         (RefusesCopy keeper refuses old new task.code task.from task.to) (Unit {0}))
     pub read : IsOnlyRead keeper.world keeper.rests old new
+    -- a fault alone shut the keeper
+    pub shuts : Given (keeper.world old) (keeper.world new)
+        (Shuts (keeper.world old) (keeper.world new))
 
   -- so it was; and what is left to be closed is the keeper as the copy left it
   abbrev pub CopiesTo : Result (Unit {0}) CopyOutFault → Option S → Type 0

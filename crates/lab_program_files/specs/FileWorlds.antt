@@ -10,6 +10,7 @@ use Rattle.lab_records_keeper.specs.Worlds.{World}
 use Rattle.lab_store_tables.specs.Ready.{tables_of}
 use Rattle.lab_store_tables.specs.Placing.{PlacesLab}
 use Rattle.lab_store_tables.specs.Steps.{AreMadeIfAny}
+use Rattle.lab_records_copy_out.specs.Causes.{Refusing}
 use Rattle.lab_store.specs.Causes.{RefusesCommit, RefusesLoad, RefusesNewborn, RefusesRange}
 use Rattle.lab_store.specs.StoreWorlds.{world_of}
 
@@ -32,7 +33,7 @@ module _ {S : Type 0} (disk : Ghosts S) where
   file_places old new lab = PlacesLab lab (tables_of (state disk old)) (tables_of (state disk new))
 
   -- why records of a laboratory may be refused, from a number to a last one
-  abbrev pub file_refuses : Held S → Held S → List ℕ → ℕ → ℕ → Type 0
+  abbrev pub file_refuses : Refusing (Held S)
   file_refuses = RefusesRange disk
 
   -- the file as a keeper

@@ -88,7 +88,8 @@ module _ {S : Type 0} (keeper : Ghosts S) (task : FoundTask) where
     EndsFounding (Err (Server Write)) = IsFounded
     EndsFounding (Err (Server Memory)) = new ≡ old
 
-  -- how a founding ends, by the body that it read: all of the input, where that is known
+  -- how a founding ends, for some bytes as its body: all of the input, where that is known; else
+  -- nothing says that they were read
   abbrev pub Ends : S → S → Result (Unit {0}) FoundingFault → Type 0
   Ends old new ending = (bytes : List ℕ) × IfSome task.body (λ all. bytes ≡ all)
       × Given (keeper.world old) (keeper.world new) (EndsFounding bytes old new ending)

@@ -120,7 +120,7 @@ where
 }
 
 /// `labdesk serve`: opens the file at the path, listens at a port of this machine (0 is any that is
-/// free), prints which, serves this number of connections one after the other, and says on standard
+/// free), prints which, serves `count` connections one after the other, and says on standard
 /// error why it stopped before the last. Once a fault has shut the file, or it no longer lies at the path,
 /// it is opened anew before the next request. Returns the status: 0 where all were served, and
 /// else 1.

@@ -113,8 +113,8 @@ module _ {S : Type 0} (disk : Ghosts S) where
     pub unfinished : LeavesUnfinished disk (state disk old) (state disk left) result
         (state disk new) (state disk made)
 
-  -- and its answer is right: a refusal is told exactly where it is owed, unless a store failed, and
-  -- what was made lasts
+  -- and its answer is right: a refusal comes exactly where it is owed, unless a store failed; the
+  -- fault of a store has its cause; and what was made lasts
   pub record AnswersRightly (old new : Held S) (result : Result ℕ MoveFault)
       (moves : Moves old new result) : Type 0 where
     pub owed : MovesAsOwed (state disk old) (state disk moves.left) (state disk new) result

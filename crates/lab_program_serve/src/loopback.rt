@@ -205,7 +205,7 @@ fn serve_listener<M: Outside, S: Keeper + Drop, O: Opener<M::Volume, S> + Drop, 
     serve_over(host, live_desk, &mut listening, count, output)
 }
 
-/// `labdesk serve`: serves this number of connections of a listener, as [`serve_over`] does, and says
+/// `labdesk serve`: serves `count` connections of a listener, as [`serve_over`] does, and says
 /// on standard error why it stopped before the last. Returns the status: 0 where all were served, and
 /// else 1.
 ///

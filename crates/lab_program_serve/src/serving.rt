@@ -64,7 +64,7 @@ pub fn serve_connection<S: Keeper + Drop, R: Read + Drop, W: Write>(
     Ok(())
 }
 
-/// Serves this number of connections, one after the other, and prints first the port at which clients can
+/// Serves `count` connections, one after the other, and prints first the port at which clients can
 /// connect. The tick of a connection is drawn when it is accepted. A connection whose request could
 /// not be read or answered whole counts as served, and the next one is served. A keeper that a
 /// fault has shut is opened anew before the next request.

@@ -13,11 +13,6 @@ abbrev pub Refusing : Type 0 → Type 1
 Refusing S = S → S → List ℕ → ℕ → ℕ → Type 0
 
 module _ {S : Type 0} (keeper : Ghosts S) where
-  -- from here to there a fault of its store alone shuts the keeper, and no fault is forgotten
-  abbrev pub ShutsByFault : S → S → Type 0
-  ShutsByFault old new = Given (keeper.world old) (keeper.world new)
-      (Shuts (keeper.world old) (keeper.world new))
-
   -- the keeper refused to load one of the records, and had only been read before
   pub record RefusesOne (old new : S) (code : List ℕ) (from last : ℕ) : Type 0 where
     pub number : ℕ
@@ -25,10 +20,13 @@ module _ {S : Type 0} (keeper : Ghosts S) where
     pub within : number ≤ last
     pub mid : S
     pub read : IsOnlyRead keeper.world keeper.rests old mid
-    pub shuts_before : ShutsByFault old mid
+    -- a fault alone shut the keeper, before the state between and after it
+    pub shuts_before : Given (keeper.world old) (keeper.world mid)
+        (Shuts (keeper.world old) (keeper.world mid))
     -- an honest end makes the state between honest
     pub passes : Passes (keeper.world mid) (keeper.world new)
-    pub shuts : ShutsByFault mid new
+    pub shuts : Given (keeper.world mid) (keeper.world new)
+        (Shuts (keeper.world mid) (keeper.world new))
     pub refused : keeper.refuses_load mid new code
         (record_need (option_map (λ (one : ℕ). Numbered one) (ordinal_of number)))
 
@@ -37,13 +35,16 @@ module _ {S : Type 0} (keeper : Ghosts S) where
       : Type 0 where
     pub mid : S
     pub read : IsOnlyRead keeper.world keeper.rests old mid
-    pub shuts_before : ShutsByFault old mid
+    -- a fault alone shut the keeper, before the state between and after it
+    pub shuts_before : Given (keeper.world old) (keeper.world mid)
+        (Shuts (keeper.world old) (keeper.world mid))
     pub named : List ℕ
     pub its : Given (keeper.world old) (keeper.world mid) (named ≡ code)
     pub last : ℕ
     pub within : last ≤ to
     pub passes : Passes (keeper.world mid) (keeper.world new)
-    pub shuts : ShutsByFault mid new
+    pub shuts : Given (keeper.world mid) (keeper.world new)
+        (Shuts (keeper.world mid) (keeper.world new))
     pub refused : records mid new named from last
 
   -- a copy was refused

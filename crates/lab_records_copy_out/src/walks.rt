@@ -68,6 +68,8 @@ pub fn copy_out<S: Keeper, G: RecordGiver<S>, W: Write, P: Progress>(
     ensures lives { Given (S.world keeper.old) (S.world keeper.new)
         (OnTold result (Lives (S.world keeper.old) (S.world keeper.new))) }
     ensures read { IsOnlyRead S.world S.rests keeper.old keeper.new }
+    ensures shuts { Given (S.world keeper.old) (S.world keeper.new)
+        (Shuts (S.world keeper.old) (S.world keeper.new)) }
 {
     order_is_legible(from, to, moment);
     match head_of(keeper, lab) {

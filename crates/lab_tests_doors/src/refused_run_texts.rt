@@ -28,8 +28,8 @@ pub(crate) const ANSWERS: &[u8] = b"founded aqua\nrefused 90 memory\nrefused 64 
 /// A head that isn't in the grammar: it asks nothing, so the keeper isn't called.
 pub(crate) const NO_HEAD: &[u8] = b"x\r\n\r\n";
 
-/// That there is no laboratory, that no memory was there, that there is no head, that there is no
-/// laboratory again, and that the store refused.
+/// That there is no laboratory, that no memory was there, that the head isn't in the grammar, that
+/// there is no laboratory again, and that the store refused.
 pub(crate) const SERVED: &[u8] =
     b"HTTP/1.1 404 Not Found\r\nDate: Thu, 01 Jan 1970 00:01:40 GMT\r\n\
     Content-Type: application/json\r\nContent-Length: 35\r\nConnection: close\r\n\r\n\

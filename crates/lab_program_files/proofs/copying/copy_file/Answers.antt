@@ -20,6 +20,7 @@ returns-clause-copies g c = (
     fault = c.copy_out-ending.ensures.fault;
     cause = c.copy_out-ending.ensures.cause;
     read = c.copy_out-ending.ensures.read;
+    shuts = c.copy_out-ending.ensures.shuts;
   },
   ap Some (c.new-2.ensures ∙ c.into_connection-left.ensures.same),
 )

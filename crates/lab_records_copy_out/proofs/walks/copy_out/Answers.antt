@@ -5,6 +5,7 @@ use Rattle.lab_records_keeper.specs.Worlds.{Given}
 use Rattle.lab_records_copy_out.specs.Walks.{CanWalk, IsWalkable, copy_text, desk_order}
 use Rattle.lab_records_copy_out.proofs.HeadLemmas.{IsOrdered, few_walked, head_there, text_is}
 use Rattle.lab_records_copy_out.proofs.LegibleLemmas.{sent_sound, walks_so}
+use Rattle.lab_records_copy_out.proofs.ReadLemmas.{shuts_on}
 use Rattle.lab_records_copy_out.proofs.walks.copy_out.Given.{Over}
 use Rattle.lab_records_copy_out.proofs.walks.copy_out.Goals.{After-copy_under}
 use Rattle.lab_records_copy_out.proofs.walks.copy_out.Goals as goal
@@ -57,3 +58,9 @@ returns-in-Ok-Some-clause-sound g c = λ can le honest reached.
     c.order_is_legible.ensures le
     (went g (goal.at.returns-in-Ok-Some-clause-sound g c).After-copy_under
     (λ live. walks_so kept (can live)) honest reached)
+
+pub returns-in-Ok-Some-clause-shuts : goal.returns-in-Ok-Some-clause-shuts
+returns-in-Ok-Some-clause-shuts g c =
+    shuts_on g.S.Keeper.world g.S.Keeper.rests c.args.keeper.now c.head_of.new.keeper
+    c.copy_under.new.keeper c.head_of.ensures.read c.copy_under.ensures.read
+    c.head_of.ensures.shuts c.copy_under.ensures.shuts
