@@ -1,9 +1,9 @@
 #!/usr/bin/env python3
-"""Writes the copy of a short day, which lab_tests_lists and tests/copies compare: Python's csv writes it by docs/COPIES.md of the
+"""Writes the copy of a short day, which lab_tests_memory and tests/copies compare: Python's csv writes it by docs/COPIES.md of the
 laboratory of tests/model/laboratory.py, whose hashes are those of hashlib.
 
     tests/model/copied.py          the copy of records 1 to 9 for hal, which is examples/copy.csv
-    tests/model/copied.py nobody   the same for nobody, as lab_tests_lists has it
+    tests/model/copied.py nobody   the same for nobody, as lab_tests_memory has it
     tests/model/copied.py 3 5      the copy of records 3 to 5, for nobody
 """
 import copy

@@ -1,4 +1,4 @@
-"""Texts of crates/lab_tests_rows, lab_tests_twins, lab_tests_disks and lab_tests_lists: the rows of two laboratories, what is asked
+"""Texts of crates/lab_tests_rows, lab_tests_twins, lab_tests_disks and lab_tests_memory: the rows of two laboratories, what is asked
 over them, and what has to come of it. All of it is made by tests/model/laboratory.py, which is no part of the program, and
 tests/model/kept_rows.py.
 
@@ -323,4 +323,4 @@ def worked_texts():
 
 SOURCES = {"lab_tests_rows/src/rows": row_texts, "lab_tests_rows/src/worked_rows": worked_row_texts,
            "lab_tests_rows/src/worked": worked_texts, "lab_tests_rows/src/crowd_texts": crowd_texts, "lab_tests_rows/src/questions": question_texts,
-           "lab_tests_disks/src/events": event_texts, "lab_tests_lists/src/events": served_texts, "lab_tests_twins/src/day": day_texts}
+           "lab_tests_disks/src/events": event_texts, "lab_tests_memory/src/events": served_texts, "lab_tests_twins/src/day": day_texts}

@@ -5,6 +5,8 @@ use Rattle.lab_copy_rows.specs.declared.flaws.Flaw.TheVariants as flaw
 use Rattle.lab_forms_texts.specs.declared.refusals.Fault.{Fault}
 use Rattle.lab_forms_texts.specs.declared.refusals.Fault.TheVariants as row_fault
 use Rattle.lab_copy_lines.specs.declared.faults.BadRow.{BadRow}
+use Rattle.lab_copy.specs.declared.asks.TheConstants.{MOST_ASKS}
+use Rattle.lab_copy.specs.declared.checks.TheConstants.{MOST_ROWS}
 use Rattle.lab_copy.specs.declared.faults.CopyFault.{CopyFault}
 use Rattle.lab_copy.specs.declared.faults.CopyFault.TheVariants.{Flawed, Memory}
 
@@ -16,10 +18,10 @@ csv_rows_of bytes = records default_config (strip_bom bytes)
 -- how many rows of a copy are read at most, and how often its reader is asked; no copy has as many
 -- rows or bytes
 abbrev pub most_rows : ℕ
-most_rows = 1000000000000
+most_rows = MOST_ROWS
 
 abbrev pub most_asks : ℕ
-most_asks = 1000000000000000
+most_asks = MOST_ASKS
 
 -- the fault of a check whose row wasn't read
 abbrev pub fault_at : ℕ → Fault BadRow → CopyFault

@@ -10,13 +10,14 @@ use Rattle.csv.specs.declared.parser.State.TheVariants as st
 use Rattle.lab_copy.specs.declared.fronts.Inside.{Inside}
 use Rattle.lab_copy.specs.declared.fronts.Inside.TheVariants as inside
 use Rattle.lab_copy.specs.declared.fronts.RowSoFar.{RowSoFar}
+use Rattle.lab_copy.specs.declared.fronts.TheConstants.{MOST_FIELDS, MOST_BYTES}
 
 -- how many fields a row has that reads, and how many bytes the longest of them may have: a note's
 abbrev pub most_fields : ℕ
-most_fields = 13
+most_fields = MOST_FIELDS
 
 abbrev pub most_bytes : ℕ
-most_bytes = 1000
+most_bytes = MOST_BYTES
 
 -- a row so far: where it stands by CSV's states, how many of its fields have ended, and how many
 -- bytes the field being read has. The mark is how much of a byte order mark the text is so far, and 3

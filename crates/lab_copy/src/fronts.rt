@@ -6,11 +6,14 @@ ghost use Rattle.csv.specs.declared.parser.Action.TheVariants as act;
 ghost use Rattle.csv.specs.declared.parser.State.TheVariants as st;
 ghost use Rattle.lab_copy.specs.Fronts.{after, front, is_too_long, mark_after, so_far, state_at, stepped, text_begun, row_begun};
 
+use lab_copy_lines::COLUMN_COUNT;
+use lab_forms_texts::NOTE_LIMIT;
+
 /// The number of fields of a valid row.
-const MOST_FIELDS: u32 = 13;
+const MOST_FIELDS: u32 = COLUMN_COUNT as u32;
 
 /// The most bytes of a field: those of the longest note.
-const MOST_BYTES: u32 = 1_000;
+const MOST_BYTES: u32 = NOTE_LIMIT as u32;
 
 /// The state of a CSV reader after the bytes of a row so far.
 #[derive(Clone, Copy, Debug, PartialEq, Eq)]

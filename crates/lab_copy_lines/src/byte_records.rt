@@ -10,7 +10,7 @@ use crate::RowFields;
 use csv::ByteRecord;
 
 /// The number of columns of a row.
-const COLUMN_COUNT: usize = 13;
+pub const COLUMN_COUNT: usize = 13;
 
 /// The columns of a row, if it has thirteen fields.
 pub(crate) fn row_fields(row: &ByteRecord) -> Option<RowFields<'_>>

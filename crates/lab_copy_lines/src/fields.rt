@@ -8,14 +8,12 @@ ghost use Rattle.lab_copy_rows.specs.Reading.{all_empty, person_in, count_in, ed
 ghost use Rattle.lab_copy_lines.specs.Fields.{HasReasonUnlessFirst, IsMeaningText, IsNoteOrNone, IsPersonOrNone, meaning_in_row};
 
 use lab_copy_rows::{
-    Digest, Edition, Format, Meaning, Moment, Note, Ordinal, OutOfMemory, PersonCode, Seal, State,
+    Digest, Edition, Format, LAST_COUNT, Meaning, Moment, Note, Ordinal, OutOfMemory, PersonCode,
+    Seal, State,
 };
 use lab_forms_texts::{Notes, PersonCodes, TextRule};
 use lab_seal::fields::{moment_of, own_copy, text_in, value_of};
 use std::alloc::Global;
-
-/// The most rows of one kind that an end row can state.
-const LAST_COUNT: u64 = 1_000_000_000_000;
 
 /// Whether the bytes are those of the word.
 pub fn is_word(bytes: &[u8], word: &str) -> bool

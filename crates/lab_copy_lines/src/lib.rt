@@ -11,7 +11,7 @@ mod lines;
 mod parts;
 mod version_row_parts;
 
-pub use byte_records::is_header;
+pub use byte_records::{COLUMN_COUNT, is_header};
 pub use columns::RowFields;
 pub use faults::{BadRow, RowFault};
 pub use kinds::LineKind;

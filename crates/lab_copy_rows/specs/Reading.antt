@@ -23,6 +23,7 @@ use Rattle.lab_copy_rows.specs.declared.lines.EntryLine.{EntryLine}
 use Rattle.lab_copy_rows.specs.declared.lines.SignatureLine.{SignatureLine}
 use Rattle.lab_copy_rows.specs.declared.lines.EndLine.{EndLine}
 use Rattle.lab_copy_rows.specs.declared.lines.Line.{Line}
+use Rattle.lab_copy_rows.specs.declared.lines.TheConstants.{LAST_COUNT}
 use Rattle.lab_copy_rows.specs.declared.lines.Line.TheVariants.{Copy, Record, Version, Entry, Signature, End}
 
 -- thirteen fields as the columns of a row
@@ -59,7 +60,7 @@ person_in (b ∷ bs) = text_where is_person_code (b ∷ bs) >>= (λ person. Some
 
 -- the most rows of one kind that an end row can tell of
 abbrev pub last_count : ℕ
-last_count = 1000000000000
+last_count = LAST_COUNT
 
 -- a number of rows
 abbrev pub count_in : List ℕ → Option ℕ

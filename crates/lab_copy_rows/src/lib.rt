@@ -19,7 +19,8 @@ pub use lab_seal_versions::{
 };
 pub use laws::{a_yes_means_sound, rows_read_back};
 pub use lines::{
-    CopyLine, Counts, Edition, EndLine, EntryLine, Line, RecordLine, SignatureLine, VersionLine,
+    CopyLine, Counts, Edition, EndLine, EntryLine, LAST_COUNT, Line, RecordLine, SignatureLine,
+    VersionLine,
 };
 pub use outs::{CopyOut, write_copy};
 pub use rows::CopyRow;

@@ -111,6 +111,9 @@ pub struct SignatureLine {
     pub seal: Seal,
 }
 
+/// The most rows of one kind that an end row can state.
+pub const LAST_COUNT: u64 = 1_000_000_000_000;
+
 /// The number of rows of each kind in a copy.
 #[derive(Clone, Copy, Debug, PartialEq, Eq)]
 pub struct Counts {

@@ -7,7 +7,7 @@ use Rattle.lab_copy_rows.specs.Copies.{IsSoundCopy}
 use Rattle.lab_records_kept.specs.declared.labs.Lab.{Lab}
 use Rattle.lab_records_keeper.specs.Worlds.{Meaning}
 use Rattle.lab_records_copy_out.specs.Legible.{IsLegibleOrder}
-use Rattle.lab_records_copy_out.specs.Walks.{desk_order}
+use Rattle.lab_records_copy_out.specs.CopyTexts.{desk_order}
 use Rattle.lab_records_machine.specs.declared.commands.Command.{Command}
 use Rattle.lab_records_machine.specs.declared.commands.Command.TheVariants.{In}
 use Rattle.lab_records_machine.specs.declared.commands.SessionCommand.TheVariants.{Reading}

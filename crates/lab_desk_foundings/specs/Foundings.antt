@@ -14,6 +14,7 @@ use Rattle.lab_records_keeper.specs.Worlds.{World, Meaning, SetsOne, Places, Liv
 use Rattle.lab_records_machine.specs.declared.births.Founding.{Founding}
 use Rattle.lab_records_machine.specs.declared.births.BirthRefusal.{BirthRefusal}
 use Rattle.lab_records_machine.specs.Births.{birth_entry, born, newborn}
+use Rattle.lab_desk_foundings.specs.declared.foundings.TheConstants.{BODY_LIMIT}
 
 -- what a founding's body says, or why it says nothing
 abbrev pub Body : Type 0
@@ -21,7 +22,7 @@ Body = Result Founding BodyRefusal
 
 -- the most bytes of a founding's body
 abbrev pub body_limit : ℕ
-body_limit = 1000000
+body_limit = BODY_LIMIT
 
 -- what the bytes of a founding's body say: one of more bytes isn't read, and is no body
 unfoldable pub founding_in : List ℕ → Body

@@ -18,7 +18,7 @@ use lab_wire_members::BodyRefusal;
 use std::alloc::Global;
 
 /// The most bytes of a founding's body.
-const BODY_LIMIT: usize = 1_000_000;
+pub const BODY_LIMIT: usize = 1_000_000;
 
 // Reads a body within the limit, and returns what a keeper needs to found the laboratory.
 fn newborn_within(

@@ -10,6 +10,7 @@ use Rattle.lab_forms.specs.Numbers.{is_number, amount_read, without_comparison}
 use Rattle.lab_forms.specs.Dates.{is_date}
 use Rattle.lab_forms.specs.Words.{has_text, has_text_twice}
 use Rattle.lab_forms.specs.declared.kinds.TheConstants.{SIZE_LIMIT, CHOICES_LIMIT}
+use Rattle.lab_forms.specs.declared.numbers.TheConstants.{DECIMALS_LIMIT}
 
 -- the form of a value's text: a number may have a `<` or a `>` in front
 abbrev pub has_form : Kind → List ℕ → Bool
@@ -66,7 +67,7 @@ is_bound decimals (Some text) = is_number decimals text
 -- twice
 abbrev pub is_kind : Kind → Bool
 is_kind (Number unit decimals min max) =
-    nat_le decimals 6 && is_bound decimals min && is_bound decimals max
+    nat_le decimals DECIMALS_LIMIT && is_bound decimals min && is_bound decimals max
     && is_at_most (bound_amount decimals min) (bound_amount decimals max)
 is_kind (Text size) = nat_le 1 size && nat_le size SIZE_LIMIT
 is_kind (Choice choices) =

@@ -4,6 +4,7 @@
 use Rattle.std.specs.Prelude.{ℕ, ◌+◌, ◌-◌, ◌*◌, ◌^◌, Bool, true, ◌&&◌, ◌||◌, ◌==◌, nat_le, List, length, drop, slice_index, if◌then◌else◌, is_some, ℤ, pos, neg_ℤ, Option, Some, None, fold, position}
 use Rattle.std.specs.List.{list_all, before_first, after_first}
 use Rattle.std.specs.Char.{is_ascii_digit}
+use Rattle.lab_forms.specs.declared.numbers.TheConstants.{WHOLE_DIGITS}
 
 abbrev pub zero_digit : ℕ
 zero_digit = 48
@@ -48,7 +49,7 @@ fraction_part text = after_first is_point text
 -- a number without a sign
 unfoldable pub is_unsigned_number : ℕ → List ℕ → Bool
 is_unsigned_number decimals text =
-    is_digits 15 (whole_part text)
+    is_digits WHOLE_DIGITS (whole_part text)
     && (if has_point text then is_digits decimals (fraction_part text) else true)
 
 -- how many millionths it is

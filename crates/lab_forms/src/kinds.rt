@@ -147,7 +147,7 @@ impl Drop for Kind {
 }
 
 fn bound_of(decimals: u32, bound: &Option<Bound>) -> Option<i128>
-    requires { decimals ≤ 6 }
+    requires { decimals ≤ DECIMALS_LIMIT }
     ensures { result ≡ bound_amount decimals bound.now }
 {
     match bound {
@@ -157,7 +157,7 @@ fn bound_of(decimals: u32, bound: &Option<Bound>) -> Option<i128>
 }
 
 fn is_number_bound(decimals: u32, bound: &Option<Bound>) -> bool
-    requires { decimals ≤ 6 }
+    requires { decimals ≤ DECIMALS_LIMIT }
     ensures { result ≡ is_bound decimals bound.now }
 {
     bound.is_none() || bound_of(decimals, bound).is_some()

@@ -13,7 +13,7 @@ const MILLION: u128 = 1_000_000;
 /// Returns the number that a text writes with 1 to `most` decimal digits.
 #[tactic(auto, unfolding(crate::specs::Numbers::is_digits, crate::specs::Numbers::decimal_value))]
 pub fn read_digits(most: usize, text: &[u8]) -> Option<u64>
-    requires { most ≤ 15 }
+    requires { most ≤ WHOLE_DIGITS }
     ensures value { result ≡ (if is_digits most text.now then Some (decimal_value text.now) else None) }
     ensures bound { IfSome result (λ number. number < 10 ^ most) }
     ensures few { IfSome result (λ number. length text.now ≤ most) }
@@ -39,7 +39,7 @@ fn point_of(text: &[u8]) -> Option<usize>
 
 // The number of millionths that a text without a sign writes.
 fn read_unsigned(decimals: u32, text: &[u8]) -> Option<u128>
-    requires { decimals ≤ 6 }
+    requires { decimals ≤ DECIMALS_LIMIT }
     ensures value { result ≡ (if is_unsigned_number decimals text.now
         then Some (millionths_of text.now) else None) }
     ensures bound { IfSome result (λ millionths. millionths < 2 ^ 127) }
@@ -69,7 +69,7 @@ fn text_without_sign(text: &[u8]) -> &[u8]
 /// `decimals` decimals.
 #[tactic(auto, unfolding(crate::specs::Numbers::is_number, crate::specs::Numbers::amount))]
 pub fn read_amount(decimals: u32, text: &[u8]) -> Option<i128>
-    requires { decimals ≤ 6 }
+    requires { decimals ≤ DECIMALS_LIMIT }
     ensures { result ≡ amount_read decimals text.now }
 {
     let millionths = read_unsigned(decimals, text_without_sign(text))? as i128;

@@ -3,11 +3,12 @@
 -- fraction.
 use Rattle.std.specs.Prelude.{◌≢◌, ℕ, ◌+◌, ◌-◌, ◌*◌, Bool, ◌&&◌, nat_le, if◌then◌else◌, List, ◌++◌, slice_index, codes, Option, Some, None, IsTrue}
 use Rattle.std.specs.Str.{bytes_eq}
+use Rattle.lab_forms_texts.specs.declared.moment.TheConstants.{LAST_SECOND}
 use Rattle.lab_forms_texts.specs.Calendar.{day_of, year_of, month_of, day_of_month, hour_of, minute_of, second_of, second_of_date, digit_zero, two_digits, four_digits}
 
 -- 9999-12-31T23:59:59Z
 abbrev pub last_moment : ℕ
-last_moment = 253402300799
+last_moment = LAST_SECOND
 
 -- its day
 abbrev pub last_day : ℕ

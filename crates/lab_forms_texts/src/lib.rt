@@ -15,8 +15,8 @@ mod typed;
 pub use faults::{BadName, MomentFault, NameFault, OutOfMemory};
 pub use moment::{LAST_SECOND, Moment};
 pub use names::{
-    Key, Keys, LabCode, LabCodes, Name, Names, Note, Notes, PersonCode, PersonCodes, Unit, Units,
-    Writing, Writings,
+    Key, Keys, LabCode, LabCodes, NAME_LIMIT, NOTE_LIMIT, Name, Names, Note, Notes, PersonCode,
+    PersonCodes, Unit, Units, Writing, Writings,
 };
 pub use ordinals::{LAST_ORDINAL, Ordinal};
 pub use refusals::{Fault, RefusalKind};

@@ -9,7 +9,7 @@ use jiff_core::civil::{Date, DateTime, Time};
 use std::marker::Model;
 
 /// The seconds of the last moment, 9999-12-31T23:59:59Z.
-pub const LAST_SECOND: i64 = 253_402_300_799;
+pub const LAST_SECOND: u64 = 253_402_300_799;
 
 /// The length of a moment's text in bytes.
 const TEXT_LEN: usize = 20;
@@ -49,7 +49,7 @@ impl Moment {
         ensures value { IfOk result (λ moment. IsTrue (is_moment moment) × (seconds ≡ pos moment)) }
         ensures fault { IfErr result (λ _. (n : ℕ) → IsTrue (is_moment n) → seconds ≢ pos n) }
     {
-        if seconds < 0 || seconds > LAST_SECOND {
+        if seconds < 0 || seconds as u64 > LAST_SECOND {
             return Err(MomentFault::BadMoment);
         }
         Ok(Moment {

@@ -10,6 +10,7 @@ use Rattle.sqlite_value.specs.Order.{Row}
 use Rattle.sqlite.specs.Effect.{Database}
 use Rattle.lab_store_tables.specs.Rows.{Tables}
 use Rattle.lab_move_tables.specs.Showing.{ShowsOf}
+use Rattle.lab_move.specs.declared.counting.TheConstants.{TABLES}
 
 -- ---- the question
 
@@ -18,7 +19,7 @@ counts_text = codes "SELECT (SELECT count(*) FROM labs), (SELECT count(*) FROM p
 
 -- how many tables it asks about: each but `desk`, whose one row names the schema
 abbrev pub counted_tables : ℕ
-counted_tables = 11
+counted_tables = TABLES
 
 -- what stands at a place of the first row
 abbrev pub cell : List Row → ℕ → Option Value

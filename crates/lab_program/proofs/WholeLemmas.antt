@@ -1,11 +1,11 @@
 -- What the first bytes of an input found is what all of it founds, where they are more than a body may have.
-use Rattle.std.proofs.Common.{◌≡◌, ◌∙◌, ℕ, List, Option, Some, None, Result, Ok, Err, ap, ap₂, lit<, refl, subst, take}
+use Rattle.std.proofs.Common.{◌≡◌, ◌∙◌, ◌+◌, ℕ, List, Option, Some, None, Result, Ok, Err, ap, ap₂, lit<, refl, subst, take}
 use Rattle.std.specs.Prelude.{IfOk, IfSome, option_map}
 use Rattle.lab_records_keeper.specs.declared.keeper.Keeper.{Ghosts as KeeperOf}
 use Rattle.lab_desk_foundings.specs.Faults.{FoundFaultFits}
 use Rattle.lab_desk_events.specs.Causes.{RefusesBirth}
 use Rattle.lab_forms_texts.specs.declared.tick.Tick.{Tick}
-use Rattle.lab_desk_foundings.specs.Foundings.{Body, Founds, IsNewborn, founding_in}
+use Rattle.lab_desk_foundings.specs.Foundings.{Body, Founds, IsNewborn, body_limit, founding_in}
 use Rattle.lab_desk_foundings.proofs.Bodies.{said_by_front}
 use Rattle.lab_program_host.specs.Sources.{Drawing}
 use Rattle.lab_program_host.specs.TaskEnds.{TaskEnd}
@@ -20,12 +20,13 @@ use Rattle.lab_program.specs.Laboratories.{front_of}
 
 -- what is said of the first bytes of an input, said of the input
 of_whole : (input : Option (List ℕ)) (P Q : List ℕ → Type 0) →
-    ((bytes : List ℕ) → P (take 1000001 bytes) → Q bytes) → IfSome (front_of input) P → IfSome input Q
+    ((bytes : List ℕ) → P (take (body_limit + 1) bytes) → Q bytes) → IfSome (front_of input) P
+    → IfSome input Q
 of_whole None P Q so holds = tt
 of_whole (Some bytes) P Q so holds = so bytes holds
 
-front_says : (bytes : List ℕ) → founding_in (take 1000001 bytes) ≡ founding_in bytes
-front_says bytes = said_by_front 1000001 bytes (lit< tt)
+front_says : (bytes : List ℕ) → founding_in (take (body_limit + 1) bytes) ≡ founding_in bytes
+front_says bytes = said_by_front (body_limit + 1) bytes (lit< tt)
 
 -- the input of which these bytes were read, where it is known; and else these bytes
 abbrev whole_of : Option (List ℕ) → List ℕ → List ℕ
@@ -127,7 +128,8 @@ pub rehearsal_whole : (code : List ℕ) (input : Option (List ℕ)) (end : TaskE
 rehearsal_whole code input end rehearsal = record {
   ending = rehearsal.ending;
   founded = of_whole input (λ bytes. FoundsBy code bytes rehearsal.ending) (λ bytes. FoundsBy code bytes rehearsal.ending)
-      (λ bytes. founds_as code (take 1000001 bytes) bytes rehearsal.ending (front_says bytes)) rehearsal.founded;
+      (λ bytes. founds_as code (take (body_limit + 1) bytes) bytes rehearsal.ending
+      (front_says bytes)) rehearsal.founded;
   printed = rehearsal.printed;
   prints = rehearsal.prints;
   wrote = rehearsal.wrote;

@@ -9,6 +9,7 @@ ghost use Rattle.lab_program_host.specs.Hosts.{drawing_between, end_between};
 ghost use Rattle.lab_program_opening.specs.Ends.{WasClosed};
 ghost use Rattle.lab_program.specs.Laboratories.{IsCopied, IsCopiedIf, IsFounded, IsRehearsed, front_of};
 
+use lab_desk_foundings::BODY_LIMIT;
 use lab_forms_streams::WriteFault;
 use lab_forms_texts::{LabCode, Moment, Ordinal};
 use lab_program_app::explain_order;
@@ -20,7 +21,7 @@ use sqlite::Connection;
 use std::io::{Read, Take, Write};
 
 /// The most bytes of an input that are read for a founding: one more than its body may have, so that a longer one is seen.
-const FRONT: u64 = 1_000_001;
+const FRONT: u64 = BODY_LIMIT as u64 + 1;
 
 // The first bytes of an input, which tell what a founding's body says. The input is not asked forever.
 fn front_of<R: Read + Drop>(input: R) -> Take<LimitedReader<R>>

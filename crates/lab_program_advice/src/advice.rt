@@ -6,16 +6,13 @@ use lab_program_host::{FoundFault, ServerFault};
 use lab_program_opening::{FoundingFault, OpenFault, Trouble};
 use lab_records_copy_out::CopyOutFault;
 use lab_records_keeper::PlacingFault;
-use lab_store_files::FileFault;
+use lab_store_files::{FileFault, SCHEMA};
 use std::fs::{self, File};
 use std::io::{self, ErrorKind, IsTerminal, Write};
 use std::net::{Ipv4Addr, SocketAddr, SocketAddrV4, TcpListener};
 
 /// The number of the schema whose files are moved.
 const MOVED: u64 = 2;
-
-/// The number of the schema whose files are served.
-const OWN: u64 = 3;
 
 /// Writes what a person should check.
 pub fn write_advice<W: Write>(
@@ -136,7 +133,7 @@ fn write_of_old<W: Write>(
         FileFault::NotADeskFile if fs::metadata(rt, path).is_err() => {
             writeln!(errors, "There is no file {path}.")
         }
-        FileFault::SchemaNew(OWN) => {
+        FileFault::SchemaNew(SCHEMA) => {
             writeln!(
                 errors,
                 "{path} needn't be moved: this labdesk serves it as it is."

@@ -1,15 +1,10 @@
 //! For a person at a terminal: the first place where bytes aren't a founding that is accepted.
 
-use lab_forms_texts::PersonCode;
+use lab_desk_foundings::BODY_LIMIT;
+use lab_forms_texts::{NAME_LIMIT, PersonCode};
 use serde_json::Value;
 use std::alloc::Global;
 use std::io::{self, Write};
-
-/// The most bytes of a founding's body.
-const BODY_LIMIT: usize = 1_000_000;
-
-/// The most bytes of a name.
-const NAME_LIMIT: usize = 120;
 
 /// The owner of a name.
 #[derive(Clone, Copy, Debug, PartialEq, Eq)]

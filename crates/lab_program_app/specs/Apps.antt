@@ -5,6 +5,7 @@ use Rattle.clap.specs.Words.{App, Rule, new_app, new_rule, with_rule, with_subco
 use Rattle.clap.specs.declared.builder.value_parser.ValueParser.TheVariants.{Signed}
 use Rattle.lab_forms_texts.specs.Moment.{last_moment}
 use Rattle.lab_forms_texts.specs.Ordinals.{last_ordinal}
+use Rattle.lab_program_app.specs.declared.commands.TheConstants.{MOST_CONNECTIONS}
 
 -- ---- arguments
 
@@ -39,7 +40,7 @@ port_rule = record (wanted_rule (codes "port")) { parser = Some (Signed (pos 0) 
 
 -- how many connections are served: 1,000,000, where nothing is said of it
 abbrev pub most_connections : ℕ
-most_connections = 1000000000
+most_connections = MOST_CONNECTIONS
 
 abbrev pub count_rule : Rule
 count_rule = record (named_rule (codes "count")) {

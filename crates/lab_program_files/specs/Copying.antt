@@ -10,7 +10,7 @@ use Rattle.lab_records_copy_out.specs.declared.faults.CopyOutFault.{CopyOutFault
 use Rattle.lab_records_copy_out.specs.Causes.{Refusing, RefusesCopy}
 use Rattle.lab_records_copy_out.specs.Faults.{CopyFaultFits, copy_fault_word}
 use Rattle.lab_records_copy_out.specs.Resting.{IsOnlyRead}
-use Rattle.lab_records_copy_out.specs.Walks.{CanWalk, copy_text, desk_order}
+use Rattle.lab_records_copy_out.specs.CopyTexts.{CanWalk, copy_text, desk_order}
 use Rattle.lab_program_opening.specs.declared.faults.OpenFault.{OpenFault}
 use Rattle.lab_program_opening.specs.declared.faults.OpenFault.TheVariants.{Drawing}
 use Rattle.lab_program_opening.specs.Faults.{TellsTask}

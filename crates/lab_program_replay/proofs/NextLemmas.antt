@@ -20,15 +20,16 @@ long_test false parts e = refl
 
 short_enough : (line rest : List ℕ) → length line ≤ most_line →
     short_line (line, rest) ≡ Some (line, rest)
-short_enough line rest h = let e : nat_le (length line) 1000 ≡ true =
+short_enough line rest h = let e : nat_le (length line) most_line ≡ true =
     grind (arith, nat_tests) in short_test _ (line, rest) e
 
 too_long : (line : List ℕ) (cut : Option (List ℕ × List ℕ)) → most_line < length line →
     after line cut >>= short_line ≡ None
 too_long line None h = refl
 too_long line (Some parts) h =
-    let longer : 1000 < length (line ++ parts.0) = omega (arith, h, length-append line parts.0) in
-    let e : nat_le (length (line ++ parts.0)) 1000 ≡ false = grind (arith, nat_tests) in
+    let longer : most_line < length (line ++ parts.0) =
+    omega (arith, h, length-append line parts.0) in
+    let e : nat_le (length (line ++ parts.0)) most_line ≡ false = grind (arith, nat_tests) in
     long_test _ (line ++ parts.0, parts.1) e
 
 -- the line that the bytes before a line feed are

@@ -9,6 +9,7 @@ use Rattle.std.specs.Str.Parse.{digits_value}
 use Rattle.std.specs.Cmp.Lexicographic.{pointwise}
 use Rattle.lab_forms_texts.specs.Moment.{is_moment}
 use Rattle.lab_forms_texts.specs.Names.{is_lab_code}
+use Rattle.lab_program_replay.specs.declared.event.TheConstants.{LAST_FIRST_WORD, MOST_BYTES, MOST_LINE}
 
 infixl 10 ◌>>=◌
 abbrev pub ◌>>=◌ : {A B : Type 0} → Option A → (A → Option B) → Option B
@@ -22,7 +23,15 @@ line_feed = 10
 
 -- the most bytes of a line before its line feed
 abbrev pub most_line : ℕ
-most_line = 1000
+most_line = MOST_LINE
+
+-- the most bytes that follow a line
+abbrev pub most_bytes : ℕ
+most_bytes = MOST_BYTES
+
+-- the greatest first word: seven more follow it within 64 bits
+abbrev pub last_first_word : ℕ
+last_first_word = LAST_FIRST_WORD
 
 -- what stands before the first such byte, and what stands after it
 unfoldable pub cut_at : ℕ → List ℕ → Option (List ℕ × List ℕ)
@@ -61,8 +70,8 @@ numbered founded text = do
   seconds ← cut_at space text
   word ← cut_at space seconds.1
   moment ← number_where is_moment seconds.0
-  first ← number_where (λ n. nat_le n 18446744073709551608) word.0
-  count ← number_where (λ n. nat_le n 1000000) word.1
+  first ← number_where (λ n. nat_le n last_first_word) word.0
+  count ← number_where (λ n. nat_le n most_bytes) word.1
   Some (record {
     founded = founded;
     moment = moment;

@@ -1,14 +1,15 @@
 //! The events of a replay, read from their text.
-ghost use Rattle.std.specs.Prelude.{◌≡◌, ℕ, ◌^◌, ◌<◌, ◌≤◌, ◌==◌, nat_le, Some, IfSome, IfOk, IfErr, length, take, option_map};
+ghost use Rattle.std.specs.Prelude.{◌≡◌, ℕ, ◌+◌, ◌^◌, ◌<◌, ◌≤◌, ◌==◌, nat_le, Some, IfSome, IfOk, IfErr, length, take, option_map};
 ghost use Rattle.std.specs.List.{position, range_with_len};
 ghost use Rattle.std.specs.Io.KnownBytes.{Consumes, IsAtEnd};
 ghost use Rattle.lab_forms_texts.specs.Moment.{is_moment};
-ghost use Rattle.lab_program_replay.specs.Event.{cut_at, number_where, lab_code, numbered, founding_of, heading_of, next_event};
+ghost use Rattle.lab_program_replay.specs.Event.{cut_at, number_where, lab_code, last_first_word, most_line, numbered, founding_of, heading_of, next_event};
 ghost use Rattle.lab_program_replay.specs.Fault.{IsInputFault};
 ghost use Rattle.lab_program_replay.specs.Reading.{GivesReading, TakesAtMost, TakesByte, TakesBytes, TakesLine, TakesNext, heading_said};
 
 use crate::fault::ReplayFault;
 use lab_desk::Event;
+use lab_desk_foundings::BODY_LIMIT;
 use lab_forms_texts::{LabCode, Moment, OutOfMemory, Series, Tick};
 use std::alloc::Global;
 use std::io;
@@ -17,8 +18,8 @@ use std::io::{BufRead, Read};
 /// The greatest first word, seven below the greatest word.
 const LAST_FIRST_WORD: u64 = u64::MAX - 7;
 
-/// The most bytes of an event.
-const MOST_BYTES: u64 = 1_000_000;
+/// The most bytes of an event: those of a founding's body.
+const MOST_BYTES: u64 = BODY_LIMIT as u64;
 
 /// The most bytes of an event's line before its line feed. Leading zeros may be many, and memory is
 /// bounded.
@@ -104,7 +105,7 @@ fn moment(text: &[u8]) -> Option<Moment>
 
 // Eight words that follow one another.
 fn words_from(first: u64) -> [u64; 8]
-    requires { first ≤ 18446744073709551608 }
+    requires { first ≤ last_first_word }
     ensures { result ≡ range_with_len first 8 }
 {
     [
@@ -223,7 +224,8 @@ fn line<B: BufRead>(alloc: Global, reader: &mut B) -> Result<Option<Vec<u8>>, Re
     ensures taken { IfSome (B.remaining reader.old)
         (λ input. TakesLine input (B.remaining reader.new) result) }
     ensures fault { IfErr result IsInputFault }
-    ensures bounded { TakesAtMost 1001 (B.remaining reader.old) (B.remaining reader.new) }
+    ensures bounded { TakesAtMost (most_line + 1)
+        (B.remaining reader.old) (B.remaining reader.new) }
 {
     let mut line = Vec::new(alloc);
     while line.len() <= MOST_LINE {

@@ -10,7 +10,7 @@ use Rattle.lab_copy_rows.specs.declared.lines.Counts.{Counts}
 use Rattle.lab_copy_rows.specs.Outs.{counted, counted_all, counted_if, no_counts}
 use Rattle.lab_records_copies.specs.CopyLines.{body_lines, count_of, counts_in, fields_of_line, has_kind, record_lines}
 use Rattle.lab_records_copies.proofs.RowLemmas.{counted as counted_lines}
-use Rattle.lab_records_copy_out.specs.Walks.{record_rows}
+use Rattle.lab_records_copy_out.specs.CopyTexts.{record_rows}
 
 -- ---- one row more
 

@@ -37,7 +37,7 @@ use Rattle.lab_records_copies.specs.CopyLines.{body_lines, copy_line, copy_lines
 use Rattle.lab_records_copies.specs.Soundness.{AreLines}
 use Rattle.lab_records_copies.proofs.CopyLemmas.{copies_are_sound}
 use Rattle.lab_records_copy_out.specs.Legible.{AllGiveSoundCopies, IsCopiable, IsLegible, IsLegibleChange, IsLegibleOrder, IsLegiblePerson, IsLegibleRecord, IsLegibleSignature, IsLegibleVersion, SendsSound}
-use Rattle.lab_records_copy_out.specs.Walks.{IsWalkable, copy_text}
+use Rattle.lab_records_copy_out.specs.CopyTexts.{IsWalkable, copy_text}
 use Rattle.lab_records_copy_out.proofs.CountLemmas.{few_within}
 use Rattle.lab_records_copy_out.proofs.LimitLemmas.{all_can_be_walked, few_of_records}
 

@@ -20,7 +20,7 @@ use Rattle.lab_records_kept.specs.Values.{meaning_of, meanings_of}
 use Rattle.lab_copy_rows.specs.declared.lines.Line.{Line}
 use Rattle.lab_copy_rows.specs.declared.lines.Line.TheVariants as line
 use Rattle.lab_records_copies.specs.CopyLines.{body_lines, entry_line, record_lines, signature_line, version_lines}
-use Rattle.lab_records_copy_out.specs.Walks.{AllCanBeWalked}
+use Rattle.lab_records_copy_out.specs.CopyTexts.{AllCanBeWalked}
 
 -- ---- signatures
 

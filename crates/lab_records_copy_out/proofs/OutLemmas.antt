@@ -9,7 +9,7 @@ use Rattle.lab_copy_rows.specs.declared.lines.Counts.{Counts}
 use Rattle.lab_copy_rows.specs.declared.outs.CopyOut.{CopyOut}
 use Rattle.lab_copy_rows.specs.Outs.{counted_all, no_counts}
 use Rattle.lab_records_copies.specs.CopyLines.{body_lines, end_line}
-use Rattle.lab_records_copy_out.specs.Walks.{record_at, record_rows, walked}
+use Rattle.lab_records_copy_out.specs.CopyTexts.{record_at, record_rows, walked}
 use Rattle.lab_records_copy_out.proofs.NumberLemmas.{next_walked}
 use Rattle.lab_records_copy_out.proofs.TextLemmas.{end_text, rows_both}
 use Rattle.lab_records_copy_out.proofs.CountLemmas.{all_counted, counted_both}

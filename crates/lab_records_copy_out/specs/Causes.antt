@@ -6,7 +6,7 @@ use Rattle.lab_records_kept.specs.declared.needs.RecordWanted.TheVariants.{Numbe
 use Rattle.lab_records_keeper.specs.declared.keeper.Keeper.{Ghosts}
 use Rattle.lab_records_keeper.specs.Worlds.{Given, Passes, Shuts}
 use Rattle.lab_records_copy_out.specs.Resting.{IsOnlyRead}
-use Rattle.lab_records_copy_out.specs.Walks.{record_need}
+use Rattle.lab_records_copy_out.specs.CopyTexts.{record_need}
 
 -- records of a laboratory, from a number to a last one, that a way to write them refuses
 abbrev pub Refusing : Type 0 → Type 1

@@ -1,5 +1,5 @@
 pub mod Causes
-pub mod Walks
+pub mod CopyTexts
 pub mod Resting
 pub mod Faults
 pub mod Legible

@@ -7,7 +7,7 @@ ghost use Rattle.lab_forms_texts.specs.Ordinals.{last_ordinal};
 ghost use Rattle.lab_copy_rows.specs.Csv.{csv_text};
 ghost use Rattle.lab_records_copy_out.specs.Faults.{CopyFaultFits};
 ghost use Rattle.lab_records_copy_out.specs.Resting.{IsOnlyRead};
-ghost use Rattle.lab_records_copy_out.specs.Walks.{record_rows, walked_to};
+ghost use Rattle.lab_records_copy_out.specs.CopyTexts.{record_rows, walked_to};
 
 use crate::CopyOutFault;
 use crate::progress::Progress;

@@ -1,6 +1,6 @@
 //! What the definitions state about laboratories whose copies are written.
 ghost use Rattle.lab_records_copy_out.specs.Legible.{AllGiveSoundCopies};
-ghost use Rattle.lab_records_copy_out.specs.Walks.{AllCanBeWalked};
+ghost use Rattle.lab_records_copy_out.specs.CopyTexts.{AllCanBeWalked};
 
 /// Law: a laboratory within its limits and under dual control can be walked.
 #[tactic(auto, using(crate::proofs::LimitLemmas::all_can_be_walked))]

@@ -6,7 +6,7 @@ ghost use Rattle.lab_copy_rows.specs.Lines.{IsMeaning, IsVersionReason};
 ghost use Rattle.lab_records_copies.specs.CopyLines.{reason_of};
 ghost use Rattle.lab_records_kept.specs.Births.{newborn_lab};
 ghost use Rattle.lab_records_copy_out.specs.Legible.{IsLegible, IsLegibleChange, IsLegiblePerson, IsLegibleRecord, IsLegibleSignature, IsLegibleVersion, IsLegibleOrder};
-ghost use Rattle.lab_records_copy_out.specs.Walks.{desk_order};
+ghost use Rattle.lab_records_copy_out.specs.CopyTexts.{desk_order};
 ghost use Rattle.lab_seal_versions.specs.Versions.{IsDigest, IsReason, IsRow};
 
 use lab_forms_texts::Series;

@@ -3,15 +3,16 @@
 //! in parts.
 #![tactic(auto)]
 
+mod copies;
 mod faults;
 mod givers;
 mod laws;
 mod legible;
 mod progress;
 mod reads;
-mod walks;
 mod wholes;
 
+pub use copies::copy_out;
 pub use faults::CopyOutFault;
 pub use givers::{RecordGiver, WholeRecords};
 pub use lab_records_keeper::Keeper;
@@ -19,4 +20,3 @@ pub use lab_records_kept::{LabCode, Moment, Ordinal};
 pub use laws::{a_laboratory_can_be_walked, a_legible_laboratory_gives_sound_copies};
 pub use legible::{changes_are_legible, lab_is_legible, newborn_is_legible, order_is_legible};
 pub use progress::{Progress, Unheard};
-pub use walks::copy_out;

@@ -10,7 +10,7 @@ ghost use Rattle.lab_copy_rows.specs.Csv.{csv_text};
 ghost use Rattle.lab_records_copy_out.specs.Causes.{RefusesOne};
 ghost use Rattle.lab_records_copy_out.specs.Faults.{CopyFaultFits};
 ghost use Rattle.lab_records_copy_out.specs.Resting.{IsOnlyRead};
-ghost use Rattle.lab_records_copy_out.specs.Walks.{record_at, record_need, record_rows, walked_to};
+ghost use Rattle.lab_records_copy_out.specs.CopyTexts.{record_at, record_need, record_rows, walked_to};
 
 use crate::CopyOutFault;
 use crate::progress::Progress;

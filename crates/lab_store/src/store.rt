@@ -16,7 +16,7 @@ ghost use Rattle.lab_store_tables.specs.Meaning.{meaning};
 ghost use Rattle.lab_store_tables.specs.Ready.{IsAtRest};
 ghost use Rattle.lab_records_copy_out.specs.Faults.{CopyFaultFits};
 ghost use Rattle.lab_records_copy_out.specs.Resting.{IsOnlyRead};
-ghost use Rattle.lab_records_copy_out.specs.Walks.{record_rows, walked_to};
+ghost use Rattle.lab_records_copy_out.specs.CopyTexts.{record_rows, walked_to};
 
 use crate::{Tables, apply, found};
 use lab_copy_rows::CopyOut;

@@ -12,4 +12,5 @@ mod texts;
 
 pub use creating::create;
 pub use faults::FileFault;
+pub use lab_store_tables::SCHEMA;
 pub use opening::{one_answer_is_owed, open};

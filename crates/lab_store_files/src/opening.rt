@@ -15,12 +15,10 @@ ghost use Rattle.lab_store_files.specs.Verdicts.{integer_in, number_query, numbe
 use crate::faults::FileFault;
 use crate::schemas::{has_number, is_whole};
 use crate::texts;
+use lab_store_tables::SCHEMA;
 use sqlite::types::ValueRef;
 use sqlite::{Alter, Connection, Error, Row};
 use sqlite_schema::schema::Schema;
-
-/// The number of the schema that the tables of this crate make.
-const SCHEMA: i64 = 3;
 
 /// Law: a file owes one answer, and not two, whatever schema is wanted, whatever tables it has and
 /// whatever number it names.
@@ -59,10 +57,10 @@ fn check_number(number: i64) -> Result<(), FileFault>
     if number < 1 {
         return Err(FileFault::NotADeskFile);
     }
-    if number < SCHEMA {
+    if number < SCHEMA as i64 {
         return Err(FileFault::SchemaOld(number.unsigned_abs()));
     }
-    if number > SCHEMA {
+    if number > SCHEMA as i64 {
         return Err(FileFault::SchemaNew(number.unsigned_abs()));
     }
     Ok(())

@@ -26,8 +26,8 @@ use Rattle.lab_store_read_records.specs.Leaves.{leaf_by, leaf_of}
 use Rattle.lab_store_read_records.specs.Readable.{ArePlaced, HasLeaf, is_placed}
 use Rattle.lab_store_read_records.proofs.Below.{leaves_below}
 use Rattle.lab_store_read_records.proofs.RetrievalFound.{leaves_found}
-use Rattle.lab_store_read_copies.specs.Causes.{CopyHasItsCause, HasNumbered, HasPage, HasPages, HasRange, HasVersions}
-use Rattle.lab_store_read_copies.specs.Pages.{lab_at}
+use Rattle.lab_store_read_copies.specs.Causes.{CopyHasItsCause, HasNumbered, HasPlacedVersion, HasPlacedVersions, HasRange, HasVersions}
+use Rattle.lab_store_read_copies.specs.GivenRows.{lab_at}
 
 -- ---- faults
 
@@ -155,29 +155,30 @@ placed_behind (one ∷ more) placed = placed
 
 -- the next of them, and those behind it
 module _ (t : Tables) (behind : Bool) (items rest : List VersionHead) (head : VersionHead)
-    (steps : items ≡ head ∷ rest) (has : HasPages t behind items) where
+    (steps : items ≡ head ∷ rest) (has : HasPlacedVersions t behind items) where
   placed : ArePlaced behind (map (leaf_by t) (head ∷ rest))
   placed = subst (λ (list : List VersionHead). ArePlaced behind (map (leaf_by t) list)) steps has.placed
 
   leaves : All (λ (one : VersionHead). HasLeaf t one.id) (head ∷ rest)
   leaves = subst (All (λ (one : VersionHead). HasLeaf t one.id)) steps has.leaves
 
-  pub page_next : HasPage t behind head
-  page_next = record {
+  pub version_next : HasPlacedVersion t behind head
+  version_next = record {
     leaf = All-head (λ (one : VersionHead). HasLeaf t one.id) head rest leaves;
     placed = placed.0;
   }
 
-  pub pages_next : HasPages t true rest
-  pages_next = record {
+  pub versions_next : HasPlacedVersions t true rest
+  versions_next = record {
     leaves = All-rest (λ (one : VersionHead). HasLeaf t one.id) head rest items steps has.leaves;
     placed = placed_behind (map (leaf_by t) rest) placed.1;
   }
 
 -- all of a record
-pub pages_of : (t : Tables) (kept : ℤ) (heads : List VersionHead) → heads ≡ versions_of t kept →
-    HasVersions t kept → HasPages t false heads
-pages_of t kept heads given has = record {
+pub versions_placed : (t : Tables) (kept : ℤ) (heads : List VersionHead) →
+    heads ≡ versions_of t kept →
+    HasVersions t kept → HasPlacedVersions t false heads
+versions_placed t kept heads given has = record {
   leaves = leaves_below t kept heads given has.versions;
   placed = subst (ArePlaced false) (sym (ap (map (leaf_by t)) given ∙ leaves_found t kept))
       has.placed;

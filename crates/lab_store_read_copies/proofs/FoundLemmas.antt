@@ -20,8 +20,8 @@ use Rattle.lab_store_read_records.specs.Leaves.{leaf_by}
 use Rattle.lab_store_read_forms.specs.Wholes.{cover_of, record_by}
 use Rattle.lab_store_read_records.proofs.RetrievalFound.{leaves_found}
 use Rattle.lab_store_read_forms.proofs.FiledFound.{numbered_found}
-use Rattle.lab_records_copy_out.specs.Walks.{numbers_between, record_at, record_rows, walked, walked_to}
-use Rattle.lab_store_read_copies.specs.Pages.{IsFormed, cover_by, cover_rows, filed_by, head_in, lab_at, pages_rows}
+use Rattle.lab_records_copy_out.specs.CopyTexts.{numbers_between, record_at, record_rows, walked, walked_to}
+use Rattle.lab_store_read_copies.specs.GivenRows.{IsFormed, cover_by, cover_rows, filed_by, head_in, lab_at, rows_of_versions}
 use Rattle.lab_store_read_copies.specs.declared.covers.Cover.{Cover}
 use Rattle.lab_store_read_copies.proofs.RowLemmas.{record_in_parts}
 
@@ -69,21 +69,21 @@ none_kept t code from last none =
 module _ (t u : Tables) (same : u ≡ t) (lab : List ℕ) where
   pub leaves_as : (cover : Record) (kept : ℤ) (heads : List VersionHead) →
       heads ≡ versions_of t kept →
-      pages_rows lab cover (chained lab cover None (map (leaf_by u) heads))
-      ≡ pages_rows lab cover (chained lab cover None (leaves_of t kept))
+      rows_of_versions lab cover (chained lab cover None (map (leaf_by u) heads))
+      ≡ rows_of_versions lab cover (chained lab cover None (leaves_of t kept))
   leaves_as cover kept heads is =
-      ap (λ (leaves : List Leaf). pages_rows lab cover (chained lab cover None leaves))
+      ap (λ (leaves : List Leaf). rows_of_versions lab cover (chained lab cover None leaves))
       (ap (λ (v : Tables). map (leaf_by v) heads) same ∙ ap (map (leaf_by t)) is
       ∙ leaves_found t kept)
 
   pub headed_as : (head : RecordHead) (cover : Record) → cover ≡ cover_by t head →
-      cover_rows lab cover ++ pages_rows lab cover
+      cover_rows lab cover ++ rows_of_versions lab cover
       (chained lab cover None (leaves_of u head.id))
       ≡ record_rows lab (record_by t lab head ∷ [])
   headed_as head cover is =
-      ap (λ (v : Tables). cover_rows lab cover ++ pages_rows lab cover
+      ap (λ (v : Tables). cover_rows lab cover ++ rows_of_versions lab cover
       (chained lab cover None (leaves_of v head.id))) same
-      ∙ ap (λ (one : Record). cover_rows lab one ++ pages_rows lab one
+      ∙ ap (λ (one : Record). cover_rows lab one ++ rows_of_versions lab one
       (chained lab one None (leaves_of t head.id))) is
       ∙ record_in_parts t lab head
 

@@ -15,16 +15,16 @@ use Rattle.lab_store_tables.specs.Meaning.{Leaf, chained, version_after}
 use Rattle.lab_store_read_records.specs.declared.heads.VersionHead.{VersionHead}
 use Rattle.lab_store_read_records.specs.Leaves.{leaf_by}
 use Rattle.lab_records_copy_out.proofs.OutLemmas.{given_on, given_rows}
-use Rattle.lab_store_read_copies.specs.Pages.{page_rows, pages_rows}
-use Rattle.lab_store_read_copies.proofs.RowLemmas.{page_alone, pages_both, pages_first, text_of_both}
+use Rattle.lab_store_read_copies.specs.GivenRows.{rows_of_version, rows_of_versions}
+use Rattle.lab_store_read_copies.proofs.RowLemmas.{version_alone, versions_both, versions_first, text_of_both}
 
 -- of all versions those before the rest went out and were counted; the next is behind this digest
 pub record HasGone (lab : List ℕ) (cover : Record) (before : Option (List ℕ))
     (rest all : List Leaf) (old now : Option (List ℕ)) (start out : CopyOut) : Type 0 where
   pub made : List Version
   pub parts : chained lab cover None all ≡ made ++ chained lab cover before rest
-  pub went : Appends old now (csv_text (pages_rows lab cover made))
-  pub counts : out ≡ given_rows start (pages_rows lab cover made)
+  pub went : Appends old now (csv_text (rows_of_versions lab cover made))
+  pub counts : out ≡ given_rows start (rows_of_versions lab cover made)
 
 pub none_gone : (lab : List ℕ) (cover : Record) (rest all : List Leaf) (old : Option (List ℕ))
     (start : CopyOut) → rest ≡ all → HasGone lab cover None rest all old old start start
@@ -44,63 +44,67 @@ module _ (lab : List ℕ) (cover : Record) (before : Option (List ℕ)) (leaf : 
   abbrev later : List Version
   later = chained lab cover (Some (digest_of lab cover this)) rest
 
-  one_more : pages_rows lab cover (so.made ++ this ∷ [])
-      ≡ pages_rows lab cover so.made ++ page_rows lab cover this
+  one_more : rows_of_versions lab cover (so.made ++ this ∷ [])
+      ≡ rows_of_versions lab cover so.made ++ rows_of_version lab cover this
   one_more =
-      pages_both lab cover so.made (this ∷ [])
-      ∙ ap (λ (rows : List (List (List ℕ))). pages_rows lab cover so.made ++ rows)
-      (page_alone lab cover this)
+      versions_both lab cover so.made (this ∷ [])
+      ∙ ap (λ (rows : List (List (List ℕ))). rows_of_versions lab cover so.made ++ rows)
+      (version_alone lab cover this)
 
-  pub gone_more : Appends between new (csv_text (page_rows lab cover this)) →
-      out ≡ given_rows mid (page_rows lab cover this) →
+  pub gone_more : Appends between new (csv_text (rows_of_version lab cover this)) →
+      out ≡ given_rows mid (rows_of_version lab cover this) →
       HasGone lab cover (Some (digest_of lab cover this)) rest all old new start out
   gone_more here gave = record {
     made = so.made ++ this ∷ [];
     parts = so.parts ∙ sym (append_assoc so.made (this ∷ []) later);
     went = subst (Appends old new)
         (sym (ap csv_text one_more
-        ∙ text_of_both (pages_rows lab cover so.made) (page_rows lab cover this)))
-        (Appends-trans old between new (csv_text (pages_rows lab cover so.made))
-        (csv_text (page_rows lab cover this)) so.went here);
-    counts = given_on start mid out (pages_rows lab cover so.made) (page_rows lab cover this)
+        ∙ text_of_both (rows_of_versions lab cover so.made) (rows_of_version lab cover this)))
+        (Appends-trans old between new (csv_text (rows_of_versions lab cover so.made))
+        (csv_text (rows_of_version lab cover this)) so.went here);
+    counts = given_on start mid out (rows_of_versions lab cover so.made)
+        (rows_of_version lab cover this)
         so.counts gave
         ∙ ap (given_rows start) (sym one_more);
   }
 
-  whole_text : csv_text (pages_rows lab cover (chained lab cover None all))
-      ≡ csv_text (pages_rows lab cover so.made)
-      ++ (csv_text (page_rows lab cover this) ++ csv_text (pages_rows lab cover later))
+  whole_text : csv_text (rows_of_versions lab cover (chained lab cover None all))
+      ≡ csv_text (rows_of_versions lab cover so.made)
+      ++ (csv_text (rows_of_version lab cover this) ++ csv_text (rows_of_versions lab cover later))
   whole_text =
-      ap csv_text (ap (pages_rows lab cover) so.parts ∙ pages_both lab cover so.made (this ∷ later)
-      ∙ ap (λ (rows : List (List (List ℕ))). pages_rows lab cover so.made ++ rows)
-      (pages_first lab cover this later))
-      ∙ text_of_both (pages_rows lab cover so.made)
-      (page_rows lab cover this ++ pages_rows lab cover later)
-      ∙ ap (λ (text : List ℕ). csv_text (pages_rows lab cover so.made) ++ text)
-      (text_of_both (page_rows lab cover this) (pages_rows lab cover later))
+      ap csv_text (ap (rows_of_versions lab cover) so.parts
+      ∙ versions_both lab cover so.made (this ∷ later)
+      ∙ ap (λ (rows : List (List (List ℕ))). rows_of_versions lab cover so.made ++ rows)
+      (versions_first lab cover this later))
+      ∙ text_of_both (rows_of_versions lab cover so.made)
+      (rows_of_version lab cover this ++ rows_of_versions lab cover later)
+      ∙ ap (λ (text : List ℕ). csv_text (rows_of_versions lab cover so.made) ++ text)
+      (text_of_both (rows_of_version lab cover this) (rows_of_versions lab cover later))
 
-  pub gone_cut : AppendsFront between new (csv_text (page_rows lab cover this)) →
-      AppendsFront old new (csv_text (pages_rows lab cover (chained lab cover None all)))
+  pub gone_cut : AppendsFront between new (csv_text (rows_of_version lab cover this)) →
+      AppendsFront old new (csv_text (rows_of_versions lab cover (chained lab cover None all)))
   gone_cut cut =
       subst (AppendsFront old new) (sym whole_text)
-      (second_went old between new (csv_text (pages_rows lab cover so.made))
-      (csv_text (page_rows lab cover this) ++ csv_text (pages_rows lab cover later)) so.went
-      (front_went between new (csv_text (page_rows lab cover this))
-      (csv_text (pages_rows lab cover later)) cut))
+      (second_went old between new (csv_text (rows_of_versions lab cover so.made))
+      (csv_text (rows_of_version lab cover this)
+      ++ csv_text (rows_of_versions lab cover later)) so.went
+      (front_went between new (csv_text (rows_of_version lab cover this))
+      (csv_text (rows_of_versions lab cover later)) cut))
 
 -- ---- so far
 
 pub gone_front : (lab : List ℕ) (cover : Record) (before : Option (List ℕ)) (rest all : List Leaf)
     (old now : Option (List ℕ)) (start out : CopyOut) →
     HasGone lab cover before rest all old now start out →
-    AppendsFront old now (csv_text (pages_rows lab cover (chained lab cover None all)))
+    AppendsFront old now (csv_text (rows_of_versions lab cover (chained lab cover None all)))
 gone_front lab cover before rest all old now start out so =
     let later = chained lab cover before rest in
     subst (AppendsFront old now)
-    (sym (ap csv_text (ap (pages_rows lab cover) so.parts ∙ pages_both lab cover so.made later)
-    ∙ text_of_both (pages_rows lab cover so.made) (pages_rows lab cover later)))
-    (first_went old now (csv_text (pages_rows lab cover so.made))
-    (csv_text (pages_rows lab cover later)) so.went)
+    (sym (ap csv_text (ap (rows_of_versions lab cover) so.parts
+    ∙ versions_both lab cover so.made later)
+    ∙ text_of_both (rows_of_versions lab cover so.made) (rows_of_versions lab cover later)))
+    (first_went old now (csv_text (rows_of_versions lab cover so.made))
+    (csv_text (rows_of_versions lab cover later)) so.went)
 
 -- ---- at the end
 
@@ -112,14 +116,16 @@ module _ (lab : List ℕ) (cover : Record) (before : Option (List ℕ)) (rest al
       sym (so.parts ∙ ap (λ (leaves : List Leaf). so.made ++ chained lab cover before leaves) none
       ∙ append-nil so.made)
 
-  pub all_gone : Appends old now (csv_text (pages_rows lab cover (chained lab cover None all)))
+  pub all_gone : Appends old now
+      (csv_text (rows_of_versions lab cover (chained lab cover None all)))
   all_gone =
       subst (λ (versions : List Version). Appends old now
-      (csv_text (pages_rows lab cover versions))) all_made so.went
+      (csv_text (rows_of_versions lab cover versions))) all_made so.went
 
-  pub all_given : out ≡ given_rows start (pages_rows lab cover (chained lab cover None all))
+  pub all_given : out ≡ given_rows start (rows_of_versions lab cover (chained lab cover None all))
   all_given =
-      subst (λ (versions : List Version). out ≡ given_rows start (pages_rows lab cover versions))
+      subst (λ (versions : List Version).
+      out ≡ given_rows start (rows_of_versions lab cover versions))
       all_made so.counts
 
 -- ---- of versions whose rows were read, where nothing has changed since
@@ -135,13 +141,15 @@ module _ (lab : List ℕ) (cover : Record) (before : Option (List ℕ)) (head : 
       subst (λ (list : List VersionHead). HasGone lab cover before (map (leaf_by t) list)
       (map (leaf_by t) heads) old between start mid) steps so
 
-  pub page_more : (digest : List ℕ) →
-      Appends between new (csv_text (page_rows lab cover (version_after cover before (leaf_by u head)))) →
-      out ≡ given_rows mid (page_rows lab cover (version_after cover before (leaf_by u head))) →
+  pub version_more : (digest : List ℕ) →
+      Appends between new
+      (csv_text (rows_of_version lab cover (version_after cover before (leaf_by u head)))) →
+      out ≡ given_rows mid
+      (rows_of_version lab cover (version_after cover before (leaf_by u head))) →
       digest ≡ digest_of lab cover (version_after cover before (leaf_by u head)) →
       HasGone lab cover (Some digest) (map (leaf_by t) rest) (map (leaf_by t) heads) old new start
       out
-  page_more digest here gave is =
+  version_more digest here gave is =
       subst (λ (one : List ℕ). HasGone lab cover (Some one) (map (leaf_by t) rest)
       (map (leaf_by t) heads) old new start out)
       (sym (is ∙ ap (λ (v : Tables).
@@ -149,16 +157,18 @@ module _ (lab : List ℕ) (cover : Record) (before : Option (List ℕ)) (head : 
       (gone_more lab cover before (leaf_by t head) (map (leaf_by t) rest) (map (leaf_by t) heads)
       old between new start mid out next_of
       (subst (λ (v : Tables). Appends between new
-      (csv_text (page_rows lab cover (version_after cover before (leaf_by v head))))) same here)
+      (csv_text (rows_of_version lab cover (version_after cover before (leaf_by v head)))))
+      same here)
       (subst (λ (v : Tables). out ≡ given_rows mid
-      (page_rows lab cover (version_after cover before (leaf_by v head)))) same gave))
+      (rows_of_version lab cover (version_after cover before (leaf_by v head)))) same gave))
 
-  pub page_cut : AppendsFront between new
-      (csv_text (page_rows lab cover (version_after cover before (leaf_by u head)))) →
+  pub version_cut : AppendsFront between new
+      (csv_text (rows_of_version lab cover (version_after cover before (leaf_by u head)))) →
       AppendsFront old new
-      (csv_text (pages_rows lab cover (chained lab cover None (map (leaf_by t) heads))))
-  page_cut cut =
+      (csv_text (rows_of_versions lab cover (chained lab cover None (map (leaf_by t) heads))))
+  version_cut cut =
       gone_cut lab cover before (leaf_by t head) (map (leaf_by t) rest) (map (leaf_by t) heads)
       old between new start mid out next_of
       (subst (λ (v : Tables). AppendsFront between new
-      (csv_text (page_rows lab cover (version_after cover before (leaf_by v head))))) same cut)
+      (csv_text (rows_of_version lab cover (version_after cover before (leaf_by v head)))))
+      same cut)

@@ -13,7 +13,7 @@ use Rattle.lab_store_tables.proofs.KnownValues.{aqua_record, older_version}
 use Rattle.lab_store_read_records.specs.declared.heads.LabHead.{LabHead}
 use Rattle.lab_store_read_records.specs.declared.heads.RecordHead.{RecordHead}
 use Rattle.lab_store_read_copies.specs.declared.covers.Cover.{Cover}
-use Rattle.lab_store_read_copies.specs.Pages.{IsFormed, cover_rows, page_rows, pages_rows, lab_at, head_in, cover_by, filed_by}
+use Rattle.lab_store_read_copies.specs.GivenRows.{IsFormed, cover_rows, rows_of_version, rows_of_versions, lab_at, head_in, cover_by, filed_by}
 
 -- ---- which record is meant
 
@@ -89,15 +89,17 @@ filled_in = record older_version { rows = entered ∷ entered ∷ []; signatures
 
 -- a record's own is one; a version's are its own, one for each of its rows, and one for each signature
 pub known_counts : (length (cover_rows (codes "aqua") (aqua_record 2 (codes "S2") [])) ≡ 1)
-    × (length (page_rows (codes "aqua") (aqua_record 2 (codes "S2") []) older_version) ≡ 1)
-    × (length (page_rows (codes "aqua") (aqua_record 2 (codes "S2") []) filled_in) ≡ 4)
-    × (length (pages_rows (codes "aqua") (aqua_record 2 (codes "S2") []) (filled_in ∷ older_version ∷ [])) ≡ 5)
+    × (length (rows_of_version (codes "aqua") (aqua_record 2 (codes "S2") []) older_version) ≡ 1)
+    × (length (rows_of_version (codes "aqua") (aqua_record 2 (codes "S2") []) filled_in) ≡ 4)
+    × (length (rows_of_versions (codes "aqua") (aqua_record 2 (codes "S2") [])
+    (filled_in ∷ older_version ∷ [])) ≡ 5)
 known_counts = (refl, refl, refl, refl)
 
 -- those of versions are those of each, the first of them first, and of none there are none
-pub known_pages :
-    (pages_rows (codes "aqua") (aqua_record 2 (codes "S2") []) (filled_in ∷ older_version ∷ [])
-    ≡ page_rows (codes "aqua") (aqua_record 2 (codes "S2") []) filled_in
-    ++ page_rows (codes "aqua") (aqua_record 2 (codes "S2") []) older_version)
-    × (pages_rows (codes "aqua") (aqua_record 2 (codes "S2") []) [] ≡ [])
-known_pages = (refl, refl)
+pub known_versions :
+    (rows_of_versions (codes "aqua") (aqua_record 2 (codes "S2") [])
+    (filled_in ∷ older_version ∷ [])
+    ≡ rows_of_version (codes "aqua") (aqua_record 2 (codes "S2") []) filled_in
+    ++ rows_of_version (codes "aqua") (aqua_record 2 (codes "S2") []) older_version)
+    × (rows_of_versions (codes "aqua") (aqua_record 2 (codes "S2") []) [] ≡ [])
+known_versions = (refl, refl)

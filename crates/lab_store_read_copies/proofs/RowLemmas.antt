@@ -16,9 +16,9 @@ use Rattle.lab_store_tables.specs.Rows.{Tables}
 use Rattle.lab_store_tables.specs.Meaning.{chained, leaves_of}
 use Rattle.lab_store_read_records.specs.declared.heads.RecordHead.{RecordHead}
 use Rattle.lab_store_read_forms.specs.Wholes.{record_by}
-use Rattle.lab_records_copy_out.specs.Walks.{record_rows}
+use Rattle.lab_records_copy_out.specs.CopyTexts.{record_rows}
 use Rattle.lab_records_copy_out.proofs.OutLemmas.{given_on, given_rows}
-use Rattle.lab_store_read_copies.specs.Pages.{cover_by, cover_rows, page_rows, pages_rows}
+use Rattle.lab_store_read_copies.specs.GivenRows.{cover_by, cover_rows, rows_of_version, rows_of_versions}
 
 -- ---- any rows
 
@@ -63,23 +63,24 @@ sends_behind old between new rows more (Err fault) first cut =
 
 -- ---- versions
 
-pub pages_both : (lab : List ℕ) (cover : Record) (made more : List Version) →
-    pages_rows lab cover (made ++ more) ≡ pages_rows lab cover made ++ pages_rows lab cover more
-pages_both lab cover made more =
+pub versions_both : (lab : List ℕ) (cover : Record) (made more : List Version) →
+    rows_of_versions lab cover (made ++ more)
+    ≡ rows_of_versions lab cover made ++ rows_of_versions lab cover more
+versions_both lab cover made more =
     ap rows_of_lines (flat_map-append (version_lines lab cover) made more)
     ∙ map-append fields_of_line (flat_map (version_lines lab cover) made)
     (flat_map (version_lines lab cover) more)
 
-pub pages_first : (lab : List ℕ) (cover : Record) (version : Version) (more : List Version) →
-    pages_rows lab cover (version ∷ more)
-    ≡ page_rows lab cover version ++ pages_rows lab cover more
-pages_first lab cover version more =
+pub versions_first : (lab : List ℕ) (cover : Record) (version : Version) (more : List Version) →
+    rows_of_versions lab cover (version ∷ more)
+    ≡ rows_of_version lab cover version ++ rows_of_versions lab cover more
+versions_first lab cover version more =
     map-append fields_of_line (version_lines lab cover version)
     (flat_map (version_lines lab cover) more)
 
-pub page_alone : (lab : List ℕ) (cover : Record) (version : Version) →
-    pages_rows lab cover (version ∷ []) ≡ page_rows lab cover version
-page_alone lab cover version =
+pub version_alone : (lab : List ℕ) (cover : Record) (version : Version) →
+    rows_of_versions lab cover (version ∷ []) ≡ rows_of_version lab cover version
+version_alone lab cover version =
     ap rows_of_lines (append-nil (version_lines lab cover version))
 
 -- ---- a record
@@ -87,7 +88,7 @@ page_alone lab cover version =
 -- its rows are its own, and those of its versions; the lines of a version read of its record all
 -- but the versions
 pub record_in_parts : (t : Tables) (lab : List ℕ) (head : RecordHead) →
-    cover_rows lab (cover_by t head) ++ pages_rows lab (cover_by t head)
+    cover_rows lab (cover_by t head) ++ rows_of_versions lab (cover_by t head)
     (chained lab (cover_by t head) None (leaves_of t head.id))
     ≡ record_rows lab (record_by t lab head ∷ [])
 record_in_parts t lab head =

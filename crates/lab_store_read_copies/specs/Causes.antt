@@ -16,7 +16,7 @@ use Rattle.lab_store_read_records.specs.Leaves.{leaf_by}
 use Rattle.lab_store_read_records.specs.Readable.{ArePlaced, HasLab, HasLeaf, HasWholeVersion, is_placed}
 use Rattle.lab_store_read_records.specs.Shown.{labs_shown, records_shown, versions_shown}
 use Rattle.lab_store_read_forms.specs.Readable.{HasWholeRecord}
-use Rattle.lab_store_read_copies.specs.Pages.{lab_at}
+use Rattle.lab_store_read_copies.specs.GivenRows.{lab_at}
 
 -- rows that go out tell of the store for no other cause, where what is read of the tables is
 -- readable
@@ -29,12 +29,12 @@ pub record CopyHasItsCause {T : Type 0} (Readable : Tables → Type 0) (old new 
 -- ---- what is read of a record whose own row is read already
 
 -- the version with the row, behind another one or none
-pub record HasPage (t : Tables) (behind : Bool) (head : VersionHead) : Type 0 where
+pub record HasPlacedVersion (t : Tables) (behind : Bool) (head : VersionHead) : Type 0 where
   pub leaf : HasLeaf t head.id
   pub placed : IsTrue (is_placed behind head.number head.reason)
 
 -- those with the rows, one after the other
-pub record HasPages (t : Tables) (behind : Bool) (heads : List VersionHead) : Type 0 where
+pub record HasPlacedVersions (t : Tables) (behind : Bool) (heads : List VersionHead) : Type 0 where
   pub leaves : All (λ (head : VersionHead). HasLeaf t head.id) heads
   pub placed : ArePlaced behind (map (leaf_by t) heads)
 

@@ -1,3 +1,3 @@
 pub mod Causes
 pub mod Gives
-pub mod Pages
+pub mod GivenRows

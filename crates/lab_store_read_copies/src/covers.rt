@@ -5,7 +5,7 @@ ghost use Rattle.lab_store_read_forms.specs.Readable.{HasFormAt};
 ghost use Rattle.lab_store_read_forms.specs.Wholes.{cover_of};
 ghost use Rattle.lab_store_read_records.specs.Readable.{HasRecord};
 ghost use Rattle.lab_store_read_records.specs.Shown.{records_shown};
-ghost use Rattle.lab_store_read_copies.specs.Pages.{IsFormed, cover_by, filed_by, head_in};
+ghost use Rattle.lab_store_read_copies.specs.GivenRows.{IsFormed, cover_by, filed_by, head_in};
 ghost use Rattle.lab_store_read.specs.Causes.{HasFirst, HasItsCause};
 ghost use Rattle.lab_store_read.specs.Reads.{Reads, MayRead};
 

@@ -2,15 +2,15 @@
 
 ghost use Rattle.std.specs.Prelude.{◌≡◌, is_some, IfOk, IsFalse};
 ghost use Rattle.sqlite.specs.State.{HasCleanDisk};
-ghost use Rattle.lab_store_read_copies.specs.Causes.{HasPage};
+ghost use Rattle.lab_store_read_copies.specs.Causes.{HasPlacedVersion};
 ghost use Rattle.lab_store_read_copies.specs.Gives.{Gives, SendsRows};
-ghost use Rattle.lab_store_read_copies.specs.Pages.{cover_rows, page_rows};
+ghost use Rattle.lab_store_read_copies.specs.GivenRows.{cover_rows, rows_of_version};
 ghost use Rattle.lab_store_read_records.specs.Leaves.{leaf_by, leaf_of};
 ghost use Rattle.lab_store_read_records.specs.Readable.{is_placed};
 ghost use Rattle.lab_store_tables.specs.Meaning.{version_after};
 ghost use Rattle.lab_store_tables.specs.Ready.{IsReady, tables_of};
 
-use crate::faults::page_fault;
+use crate::faults::copy_fault;
 use lab_copy_rows::CopyOut;
 use lab_forms_texts::LabCode;
 use lab_records_copies::{record_row, version_rows};
@@ -50,7 +50,7 @@ fn give_version<W: Write>(
     out: &mut CopyOut,
     writer: &mut W,
 ) -> Result<(), CopyOutFault>
-    ensures { SendsRows ⊥ (page_rows lab.now cover.now version.now)
+    ensures { SendsRows ⊥ (rows_of_version lab.now cover.now version.now)
         (W.contents writer.old) (W.contents writer.new) out.old out.new result }
 {
     let rows = version_rows(alloc, lab, cover, version)?;
@@ -70,7 +70,7 @@ fn give_leaf<W: Write>(
     writer: &mut W,
 ) -> Result<Version, CopyOutFault>
     ensures sends { SendsRows (IsFalse (is_placed (is_some before) leaf.number leaf.reason))
-        (page_rows lab.now cover.now (version_after cover.now before (leaf_of leaf)))
+        (rows_of_version lab.now cover.now (version_after cover.now before (leaf_of leaf)))
         (W.contents writer.old) (W.contents writer.new) out.old out.new result }
     ensures version { IfOk result
         (λ version. version ≡ version_after cover.now before (leaf_of leaf)) }
@@ -88,7 +88,7 @@ fn give_leaf<W: Write>(
 /// # Errors
 /// The store failed, memory ran out, or a write failed or took no byte. The front of the rows' text
 /// was written, and the tables are unchanged.
-pub fn give_page<D: Readable, W: Write>(
+pub fn give_version_at<D: Readable, W: Write>(
     alloc: Global,
     conn: &mut D,
     lab: &LabCode,
@@ -99,8 +99,8 @@ pub fn give_page<D: Readable, W: Write>(
     writer: &mut W,
 ) -> Result<Version, CopyOutFault>
     ensures gives { Gives
-        (λ t. page_rows lab.now cover.now (version_after cover.now before (leaf_by t head)))
-        (λ t. HasPage t (is_some before) head) (D.state conn.old) (D.state conn.new)
+        (λ t. rows_of_version lab.now cover.now (version_after cover.now before (leaf_by t head)))
+        (λ t. HasPlacedVersion t (is_some before) head) (D.state conn.old) (D.state conn.new)
         (W.contents writer.old) (W.contents writer.new) out.old out.new result }
     ensures version { IsReady (D.state conn.old) → HasCleanDisk (D.state conn.new) →
         IfOk result (λ version. version
@@ -108,6 +108,6 @@ pub fn give_page<D: Readable, W: Write>(
 {
     match leaf_at(alloc, conn, head) {
         Ok(leaf) => give_leaf(alloc, lab, cover, before, leaf, out, writer),
-        Err(fault) => Err(page_fault(fault)),
+        Err(fault) => Err(copy_fault(fault)),
     }
 }

@@ -6,6 +6,6 @@
 mod covers;
 mod faults;
 mod leaves;
-mod pages;
+mod records;
 
-pub use pages::give_records_at;
+pub use records::give_records_at;

@@ -5,12 +5,12 @@ use Rattle.sqlite_value.specs.declared.value.Value.TheVariants.{Null}
 use Rattle.sqlite_sql.specs.Term.{Term, lit, col}
 use Rattle.lab_store_tables.specs.Sheets.{Content, Described, Sheet, names, Id, Number, Flag, Words, Octets}
 
-abbrev pub kind_word : Content → List ℕ
-kind_word Id = codes "INTEGER"
-kind_word Number = codes "INTEGER"
-kind_word Flag = codes "INTEGER"
-kind_word Words = codes "TEXT"
-kind_word Octets = codes "BLOB"
+abbrev pub content_word : Content → List ℕ
+content_word Id = codes "INTEGER"
+content_word Number = codes "INTEGER"
+content_word Flag = codes "INTEGER"
+content_word Words = codes "TEXT"
+content_word Octets = codes "BLOB"
 
 abbrev pub joined : List ℕ → List (List ℕ) → List ℕ
 joined between [] = []
@@ -37,7 +37,8 @@ unique_beside keys name =
 
 abbrev column_text : List (List (List ℕ)) → Described → List ℕ
 column_text keys one =
-    one.name ++ codes " " ++ kind_word one.kind ++ (if one.needed then codes " NOT NULL" else [])
+    one.name ++ codes " " ++ content_word one.content
+    ++ (if one.needed then codes " NOT NULL" else [])
     ++ unique_beside keys one.name ++ leads_text one.leads
 
 abbrev unique_text : List (List ℕ) → List ℕ

@@ -4,17 +4,18 @@ use Rattle.lab_store_tables.specs.RowRecords.{DeskRow, LabRow, PersonRow, Sessio
 use Rattle.lab_store_tables.specs.Sheets.{Content, Id, Number, Flag, Words, Octets, Described, Sheet, Cells}
 
 abbrev pub given : List ℕ → Content → Described
-given name kind = record { name = name; kind = kind; needed = true; leads = None }
+given name content = record { name = name; content = content; needed = true; leads = None }
 
 abbrev pub perhaps : List ℕ → Content → Described
-perhaps name kind = record { name = name; kind = kind; needed = false; leads = None }
+perhaps name content = record { name = name; content = content; needed = false; leads = None }
 
 -- an id of the parent's
 abbrev pub leads : List ℕ → List ℕ → Described
-leads name parent = record { name = name; kind = Id; needed = true; leads = Some parent }
+leads name parent = record { name = name; content = Id; needed = true; leads = Some parent }
 
 abbrev pub leads_perhaps : List ℕ → List ℕ → Described
-leads_perhaps name parent = record { name = name; kind = Id; needed = false; leads = Some parent }
+leads_perhaps name parent =
+    record { name = name; content = Id; needed = false; leads = Some parent }
 
 -- ---- desk
 

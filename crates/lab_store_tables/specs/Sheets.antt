@@ -34,30 +34,30 @@ Held Octets = List ℕ
 
 -- always filled, or with NULL where there is none
 abbrev pub HeldIn : Bool → Content → Type 0
-HeldIn true kind = Held kind
-HeldIn false kind = Option (Held kind)
+HeldIn true content = Held content
+HeldIn false content = Option (Held content)
 
-abbrev pub write : (kind : Content) → Held kind → Value
+abbrev pub write : (content : Content) → Held content → Value
 write Id n = Int n
 write Number n = number n
 write Flag b = flag b
 write Words t = Text t
 write Octets b = Blob b
 
-abbrev pub read : (kind : Content) → Value → Held kind
+abbrev pub read : (content : Content) → Value → Held content
 read Id v = id_in v
 read Number v = number_in v
 read Flag v = flag_in v
 read Words v = bytes v
 read Octets v = bytes v
 
-abbrev pub write_in : (needed : Bool) (kind : Content) → HeldIn needed kind → Value
-write_in true kind = write kind
-write_in false kind = optional (write kind)
+abbrev pub write_in : (needed : Bool) (content : Content) → HeldIn needed content → Value
+write_in true content = write content
+write_in false content = optional (write content)
 
-abbrev pub read_in : (needed : Bool) (kind : Content) → Value → HeldIn needed kind
-read_in true kind = read kind
-read_in false kind = optional_in (read kind)
+abbrev pub read_in : (needed : Bool) (content : Content) → Value → HeldIn needed content
+read_in true content = read content
+read_in false content = optional_in (read content)
 
 abbrev pub stored_kind : Content → stored.Kind
 stored_kind Id = kinds.Integer
@@ -70,7 +70,7 @@ stored_kind Octets = kinds.Blob
 
 pub record Described : Type 0 where
   pub name : List ℕ
-  pub kind : Content
+  pub content : Content
   pub needed : Bool
   pub leads : Option (List ℕ)
 
@@ -87,15 +87,15 @@ names columns = map (λ (one : Described). one.name) columns
 
 abbrev pub Cells : List Described → Type 0
 Cells [] = Unit {0}
-Cells (c ∷ cs) = HeldIn c.needed c.kind × Cells cs
+Cells (c ∷ cs) = HeldIn c.needed c.content × Cells cs
 
 abbrev pub row_of : (cs : List Described) → Cells cs → Row
 row_of [] x = []
-row_of (c ∷ cs) x = write_in c.needed c.kind x.0 ∷ row_of cs x.1
+row_of (c ∷ cs) x = write_in c.needed c.content x.0 ∷ row_of cs x.1
 
 abbrev pub cells_at : (cs : List Described) → ℕ → Row → Cells cs
 cells_at [] at row = tt
-cells_at (c ∷ cs) at row = (read_in c.needed c.kind (column row at), cells_at cs (at + 1) row)
+cells_at (c ∷ cs) at row = (read_in c.needed c.content (column row at), cells_at cs (at + 1) row)
 
 -- ---- the table in the schema
 
@@ -143,7 +143,7 @@ table name tree columns uniques references = record {
 }
 
 abbrev pub column_in : Described → Column
-column_in one = column_of one.needed one.name (stored_kind one.kind)
+column_in one = column_of one.needed one.name (stored_kind one.content)
 
 abbrev arrow_at : ℕ → Option (List ℕ) → List Reference → List Reference
 arrow_at place None others = others

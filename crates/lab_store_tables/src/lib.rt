@@ -10,9 +10,11 @@ mod keeping;
 mod people;
 mod placing;
 mod records;
+mod schema;
 
 pub use changes::changes_of_the_tables_mean_themselves;
 pub use keeping::{a_change_keeps_the_tables_well, a_founding_keeps_the_tables_well};
 pub use people::a_change_of_people_or_forms_means_itself;
 pub use placing::a_founded_laboratory_is_placed;
 pub use records::a_change_of_records_means_itself;
+pub use schema::SCHEMA;

@@ -31,28 +31,30 @@ cast_blob (Some bytes) = refl
 
 -- ---- all columns of a table
 
-cast_one : (kind : Content) (x : Held kind) → cast (stored_kind kind) (write kind x) ≡ write kind x
+cast_one : (content : Content) (x : Held content) →
+    cast (stored_kind content) (write content x) ≡ write content x
 cast_one Id n = cast_int n
 cast_one Number n = cast_int (pos n)
 cast_one Flag b = cast_flag b
 cast_one InWords t = refl
 cast_one Octets b = refl
 
-cast_none : (kind : Content) → cast (stored_kind kind) Null ≡ Null
+cast_none : (content : Content) → cast (stored_kind content) Null ≡ Null
 cast_none Id = cast_null
 cast_none Number = cast_null
 cast_none Flag = cast_null
 cast_none InWords = refl
 cast_none Octets = refl
 
-cast_in : (needed : Bool) (kind : Content) (x : HeldIn needed kind) → cast (stored_kind kind) (write_in needed kind x) ≡ write_in needed kind x
-cast_in true kind x = cast_one kind x
-cast_in false kind None = cast_none kind
-cast_in false kind (Some x) = cast_one kind x
+cast_in : (needed : Bool) (content : Content) (x : HeldIn needed content) →
+    cast (stored_kind content) (write_in needed content x) ≡ write_in needed content x
+cast_in true content x = cast_one content x
+cast_in false content None = cast_none content
+cast_in false content (Some x) = cast_one content x
 
 pub cast_cells : (cs : List Described) (x : Cells cs) → cast_all (map column_in cs) (row_of cs x) ≡ row_of cs x
 cast_cells [] x = refl
-cast_cells (c ∷ cs) x = λ i. cast_in c.needed c.kind x.0 i ∷ cast_cells cs x.1 i
+cast_cells (c ∷ cs) x = λ i. cast_in c.needed c.content x.0 i ∷ cast_cells cs x.1 i
 
 -- a row under its id, and one that is still to get an id
 pub cast_whole : (sheet : Sheet) (id : ℤ) (x : Cells sheet.columns) → cast_row (table_of sheet) (Int id ∷ Null ∷ row_of sheet.columns x) ≡ Int id ∷ Null ∷ row_of sheet.columns x

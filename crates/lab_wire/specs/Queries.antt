@@ -3,6 +3,7 @@
 use Rattle.std.specs.Prelude.{ℕ, ◌+◌, ◌==◌, ◌&&◌, Bool, nat_le, List, [], ◌∷◌, codes, if◌then◌else◌, Option, Some, None, option_and_then}
 use Rattle.std.specs.List.{slice_split}
 use Rattle.lab_wire.specs.declared.queries.Range.{Range}
+use Rattle.lab_wire.specs.declared.queries.TheConstants.{RANGE_LIMIT}
 use Rattle.lab_wire.specs.Numbers.{ordinal_in}
 use Rattle.lab_wire.specs.Paths.{behind}
 
@@ -15,7 +16,7 @@ is_ampersand b = b == ampersand
 
 -- how far the last number of a range may be from its first
 abbrev pub range_limit : ℕ
-range_limit = 99
+range_limit = RANGE_LIMIT
 
 -- the number that a member gives behind its name
 abbrev pub number_behind : List ℕ → List ℕ → Option ℕ

@@ -12,16 +12,17 @@ use Rattle.httparse.specs.declared.spans.HeaderSpan.{HeaderSpan}
 use Rattle.httparse.specs.declared.spans.Span.{Span}
 use Rattle.httparse.specs.Pieces.{is_newline}
 use Rattle.lab_wire_heads.specs.declared.heads.RequestHead.{RequestHead}
+use Rattle.lab_wire_heads.specs.declared.heads.TheConstants.{HEAD_LIMIT, FIELD_LIMIT}
 use Rattle.lab_wire_heads.specs.declared.refusals.HeadRefusal.{HeadRefusal}
 use Rattle.lab_wire_heads.specs.declared.refusals.HeadRefusal.TheVariants.{BadHead, HeadTooLong}
 
 -- how many bytes may come before the end of a head, those that are dropped counted
 abbrev pub head_limit : ℕ
-head_limit = 8192
+head_limit = HEAD_LIMIT
 
 -- how many field lines a head may have
 abbrev pub field_limit : ℕ
-field_limit = 64
+field_limit = FIELD_LIMIT
 
 -- the bytes from the first that is neither CR nor LF: a server passes over empty lines before a
 -- request line

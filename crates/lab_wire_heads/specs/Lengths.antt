@@ -6,6 +6,7 @@ use Rattle.std.specs.List.{list_all}
 use Rattle.std.specs.Option.{option_map_or}
 use Rattle.std.specs.Char.{is_ascii_digit}
 use Rattle.std.specs.Str.Parse.{digits_value}
+use Rattle.lab_wire_heads.specs.declared.lengths.TheConstants.{BODY_LIMIT}
 use Rattle.lab_wire_heads.specs.declared.refusals.HeadRefusal.{HeadRefusal}
 use Rattle.lab_wire_heads.specs.declared.refusals.HeadRefusal.TheVariants.{BadHead, TransferCoding, LengthWanted, BodyTooLong}
 use Rattle.lab_wire_heads.specs.Heads.{Field, Head}
@@ -13,7 +14,7 @@ use Rattle.lab_wire_heads.specs.Fields.{authorization, content_length, transfer_
 
 -- how many bytes a body may have
 abbrev pub body_limit : ℕ
-body_limit = 65536
+body_limit = BODY_LIMIT
 
 -- Content-Length = 1*DIGIT: any number of digits, leading zeros too, and no sign
 abbrev pub is_digits : List ℕ → Bool

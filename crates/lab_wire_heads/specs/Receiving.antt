@@ -3,6 +3,7 @@
 -- that the bytes begin with, as lab_wire_heads has it.
 use Rattle.std.specs.Prelude.{◌≡◌, ℕ, ◌<◌, Bool, ◌⊎◌, List, [], length, take, if◌then◌else◌, IsOk, Option, Result, Ok, Err}
 use Rattle.std.specs.Io.KnownBytes.{Appends}
+use Rattle.lab_wire_heads.specs.declared.asks.TheConstants.{MOST_ASKS}
 use Rattle.lab_wire_heads.specs.declared.refusals.HeadFault.{HeadFault}
 use Rattle.lab_wire_heads.specs.declared.refusals.HeadFault.TheVariants.{Refused, Read, Write, Memory}
 use Rattle.lab_wire_heads.specs.Requests.{accepted_head, request_in}
@@ -12,7 +13,7 @@ use Rattle.lab_wire_heads.specs.Receptions.{request_length}
 -- how often a reader is asked for one request at most: a request has 73,728 bytes at most, so that
 -- single bytes suffice
 abbrev pub most_asks : ℕ
-most_asks = 80000
+most_asks = MOST_ASKS
 
 -- the bytes are one request, and nothing behind it
 abbrev pub IsWholeRequest : List ℕ → Type 0

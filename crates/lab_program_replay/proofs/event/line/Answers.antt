@@ -1,6 +1,7 @@
-use Rattle.std.proofs.Common.{◌≡◌, Global, [], ◌∷◌, ◌++◌, ap, sym, ◌∙◌, arith, true}
+use Rattle.std.proofs.Common.{◌≡◌, ◌+◌, Global, [], ◌∷◌, ◌++◌, ap, sym, ◌∙◌, arith, true}
 use Rattle.std.specs.Prelude.{is_ok}
 use Rattle.std.proofs.lemmas.Bool.Decides.{nat_tests}
+use Rattle.lab_program_replay.specs.Event.{most_line}
 use Rattle.lab_program_replay.proofs.ReadLemmas.{has_read-more, taken_after}
 use Rattle.lab_program_replay.proofs.NextLemmas.{line_taken, line_short}
 use Rattle.lab_program_replay.proofs.event.line.Goals as goal
@@ -25,7 +26,7 @@ returns-in-Some-eq10-clause-bounded g c =
     let took = rw c.in-Some-eq10.is at c.in_ok-byte.ensures.taken in
     taken_after (g.B.Read.remaining c.args.reader.now) (g.B.Read.remaining c.loop-reader.reader)
     (g.B.Read.remaining c.byte.new.reader)
-    c.loop-reader.line.items c.in-Some-eq10.field-0 1001
+    c.loop-reader.line.items c.in-Some-eq10.field-0 (most_line + 1)
     (omega arith) c.loop-reader.invariant.1 took
 
 pub loop-reader-preserved : goal.loop-reader-preserved

@@ -2,7 +2,7 @@
 use Rattle.std.proofs.Common.{◌≡◌, Option, Some, sym, ◌∙◌, subst, option_to_list}
 use Rattle.lab_records_kept.specs.declared.records.Record.{Record}
 use Rattle.lab_copy_rows.specs.Outs.{Sends}
-use Rattle.lab_records_copy_out.specs.Walks.{record_at}
+use Rattle.lab_records_copy_out.specs.CopyTexts.{record_at}
 use Rattle.lab_records_copy_out.proofs.TextLemmas.{records_text}
 use Rattle.lab_records_copy_out.proofs.wholes.give_at.Goals as goal
 

@@ -2,7 +2,7 @@
 use Rattle.std.proofs.Common.{arith, ◌≡◌, ◌-◌, ◌≤◌, subst}
 use Rattle.std.specs.Io.KnownBytes.{Appends}
 use Rattle.std.proofs.lemmas.Result.{err_from_is_err_and}
-use Rattle.lab_records_copy_out.specs.Walks.{numbers_between, record_rows, walked}
+use Rattle.lab_records_copy_out.specs.CopyTexts.{numbers_between, record_rows, walked}
 use Rattle.lab_records_copy_out.proofs.FaultLemmas.{fits_as}
 use Rattle.lab_records_copy_out.proofs.HeadLemmas.{from_one}
 use Rattle.lab_records_copy_out.proofs.OutLemmas.{given_rows, none_given, record_given}

@@ -3,7 +3,7 @@ use Rattle.std.proofs.Common.{◌≡◌, ◌-◌, ◌≤◌}
 use Rattle.std.specs.Io.KnownBytes.{Appends}
 use Rattle.lab_records_keeper.specs.Worlds.{Given, Shuts}
 use Rattle.lab_records_copy_out.specs.Resting.{IsOnlyRead}
-use Rattle.lab_records_copy_out.specs.Walks.{numbers_between, record_rows, walked}
+use Rattle.lab_records_copy_out.specs.CopyTexts.{numbers_between, record_rows, walked}
 use Rattle.lab_records_copy_out.proofs.TextLemmas.{records_text}
 use Rattle.lab_records_copy_out.proofs.OutLemmas.{given_rows}
 use Rattle.lab_records_copy_out.proofs.wholes.give_wholes.Given as goal

@@ -2,7 +2,7 @@
 use Rattle.std.proofs.Common.{◌≡◌, IfSome, Option, sym, subst}
 use Rattle.lab_store_read.specs.Reads.{MayRead}
 use Rattle.lab_store_read.proofs.Readers.{may_read, reads_as}
-use Rattle.lab_store_read_copies.specs.Pages.{IsFormed, filed_by}
+use Rattle.lab_store_read_copies.specs.GivenRows.{IsFormed, filed_by}
 use Rattle.lab_store_read_copies.specs.declared.covers.Cover.{Cover}
 use Rattle.lab_store_read_copies.proofs.covers.cover_behind.Goals as goal
 
