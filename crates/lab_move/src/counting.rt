@@ -86,10 +86,8 @@ fn has_so_many<T: Alter>(new: &mut Connection<T>, rows: &[Row]) -> Result<bool, 
         IsCaused (state T.Store new.old) (state T.Store new.new)
         ⊎ (¬ AreCounts rows.now (tables_of (state T.Store new.old)))) }
 {
-    match new_rows(new) {
-        Ok(others) => are_alike(rows, &others),
-        Err(fault) => Err(fault),
-    }
+    let others = new_rows(new)?;
+    are_alike(rows, &others)
 }
 
 // Whether each table has as many rows in both files.
@@ -110,10 +108,8 @@ fn has_as_many<D: Readable, T: Alter>(
         HasOurTables (state T.Store new.old) → IfErr result (λ fault. fault ≡ storage →
         FailsToMatch T.Store (D.state old.old) (D.state old.new) new.old new.new) }
 {
-    match old_rows(old) {
-        Ok(rows) => has_so_many(new, &rows),
-        Err(fault) => Err(fault),
-    }
+    let rows = old_rows(old)?;
+    has_so_many(new, &rows)
 }
 
 // What is answered where the numbers differ: no laboratory can be named.

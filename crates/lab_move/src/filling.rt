@@ -30,7 +30,7 @@ use crate::faults::MoveFault;
 use crate::testing::{not_sound, test_lab};
 use lab_forms_texts::LabCode;
 use lab_move_read::{KeptFault, codes, whole};
-use lab_move_tables::Older;
+use lab_move_tables::{ChainedLab, Older};
 use lab_move_write::{MoveProgress, finish, place_lab};
 use lab_records_kept::Lab;
 use lab_store_files::FileFault;
@@ -62,7 +62,7 @@ fn place_sound<T: Alter, P: MoveProgress>(
     alloc: Global,
     new: &mut Connection<T>,
     code: &LabCode,
-    lab: &Lab,
+    lab: &ChainedLab,
     progress: &mut P,
 ) -> Result<(), MoveFault>
     requires at_rest { IsAtRest (state T.Store new.old) }
@@ -77,7 +77,7 @@ fn place_sound<T: Alter, P: MoveProgress>(
         IsUnplaced T.Store lab.now new.old new.new) }
 {
     test_lab(alloc, code, lab)?;
-    place_tried(new, lab, progress)
+    place_tried(new, lab.lab(), progress)
 }
 
 // Places a laboratory that was read, where there is one.
@@ -85,7 +85,7 @@ fn place_found<T: Alter, P: MoveProgress>(
     alloc: Global,
     new: &mut Connection<T>,
     code: &LabCode,
-    found: Option<Lab>,
+    found: Option<ChainedLab>,
     progress: &mut P,
 ) -> Result<(), MoveFault>
     requires at_rest { IsAtRest (state T.Store new.old) }

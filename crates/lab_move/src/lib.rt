@@ -17,8 +17,8 @@ mod testing;
 
 pub use faults::MoveFault;
 pub use lab_forms_texts::{LabCode, OutOfMemory};
-pub use lab_move_tables::{Older, is_sound, is_within};
-pub use lab_move_write::{Inside, MoveProgress, Unwatched, finish, make_tables, place_lab};
+pub use lab_move_tables::{ChainedLab, Older, is_sound, is_within};
+pub use lab_move_write::{MoveProgress, Unwatched, finish, make_tables, place_lab};
 pub use lab_records_kept::Lab;
 pub use lab_store_files::FileFault;
 pub use moving::{

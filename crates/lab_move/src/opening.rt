@@ -218,10 +218,8 @@ fn older_in<S: Alter>(file: &mut Asked<S>) -> Result<Older, FileFault>
     if !has_number(file.conn.schema()) {
         return Err(FileFault::NotADeskFile);
     }
-    match number_rows(file) {
-        Ok(rows) => verdict(file.conn.schema(), &rows),
-        Err(fault) => Err(fault),
-    }
+    let rows = number_rows(file)?;
+    verdict(file.conn.schema(), &rows)
 }
 
 /// Opens a file of an older schema. It looks of which one the file is, by the one row of the table

@@ -10,9 +10,8 @@ ghost use Rattle.lab_move.specs.Moving.{Blames, IsSoundLab};
 
 use crate::faults::MoveFault;
 use lab_forms_texts::LabCode;
-use lab_move_tables::{is_sound, is_within};
+use lab_move_tables::{ChainedLab, is_sound, is_within};
 use lab_records_copy_out::lab_is_legible;
-use lab_records_kept::Lab;
 use lab_store_files::FileFault;
 use std::alloc::Global;
 
@@ -31,18 +30,18 @@ pub(crate) fn not_sound(code: &LabCode) -> MoveFault
 /// # Errors
 /// It isn't within its limits, which is a fault of the store; it isn't bound or not under dual
 /// control; or memory ran out.
-pub(crate) fn test_lab(alloc: Global, code: &LabCode, lab: &Lab) -> Result<(), MoveFault>
+pub(crate) fn test_lab(alloc: Global, code: &LabCode, lab: &ChainedLab) -> Result<(), MoveFault>
     ensures sound { OnOk result (IsSoundLab lab.now) }
     ensures fault { IfErr result
         (Blames (λ one. (one ≡ code.now) × ¬ (IsBound lab.now × IsDual lab.now))) }
     ensures within { IfErr result (λ fault. fault ≡ File Storage → ¬ IsWithin lab.now) }
 {
-    if !is_within(lab) {
+    if !is_within(lab.lab()) {
         return Err(MoveFault::File(FileFault::Storage));
     }
     match is_sound(alloc, lab) {
         Ok(true) => {
-            lab_is_legible(lab);
+            lab_is_legible(lab.lab());
             Ok(())
         }
         Ok(false) => Err(not_sound(code)),

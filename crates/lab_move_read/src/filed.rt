@@ -10,6 +10,7 @@ ghost use Rattle.lab_move_tables.specs.KeptLabs.{are_so_many_records};
 ghost use Rattle.lab_store_read.specs.Cells.{storage};
 ghost use Rattle.lab_store_read_records.specs.Readable.{ArePlaced};
 ghost use Rattle.lab_move_tables.specs.Answering.{IsTaken};
+ghost use Rattle.lab_move_tables.specs.Chained.{IsChained};
 ghost use Rattle.lab_move_tables.specs.Questions.{filed_text};
 ghost use Rattle.lab_move_tables.specs.Shown.{records_shown};
 ghost use Rattle.lab_move_read_people.specs.declared.faults.KeptFault.TheVariants.{Storage};
@@ -70,6 +71,7 @@ fn record_with(
 ) -> Result<Record, ReadFault>
     ensures value { IfOk result
         (λ kept. kept ≡ record_with code.now head form (map leaf_of leaves.items)) }
+    ensures chained { IfOk result (IsChained code.now) }
     ensures fault { IfErr result
         (λ fault. fault ≡ storage → ¬ ArePlaced false (map leaf_of leaves.items)) }
 {
@@ -94,10 +96,11 @@ fn record_whole<D: Readable>(
     forms: &[FormAt],
     head: RecordHead,
 ) -> Result<Record, KeptFault>
-    ensures { TriesBy older (λ db t. HasRecordParts older db t head)
+    ensures tries { TriesBy older (λ db t. HasRecordParts older db t head)
         (λ t. is_kept_record_head t lab forms.now head)
         (λ t kept. kept ≡ record_by t code.now forms.now head)
         (D.state conn.old) (D.state conn.new) result }
+    ensures chained { IfOk result (IsChained code.now) }
 {
     let leaves = leaves_at(alloc, conn, older, lab, head.id, head.current)?;
     let form = named_form(forms, &head)?;
@@ -117,10 +120,11 @@ fn records_whole<D: Readable>(
     forms: &[FormAt],
     heads: Vec<RecordHead>,
 ) -> Result<Series<Record>, KeptFault>
-    ensures { TriesBy older (λ db t. All (HasRecordParts older db t) heads.items)
+    ensures tries { TriesBy older (λ db t. All (HasRecordParts older db t) heads.items)
         (λ t. list_all (is_kept_record_head t lab forms.now) heads.items)
         (λ t made. made ≡ map (record_by t code.now forms.now) heads.items)
         (D.state conn.old) (D.state conn.new) result }
+    ensures chained { IfOk result (All (IsChained code.now)) }
 {
     let mut made = Series::new(alloc);
     for head in heads {
@@ -145,9 +149,11 @@ pub fn records_at<D: Readable>(
     forms: &[FormAt],
     count: u64,
 ) -> Result<Series<Record>, KeptFault>
-    ensures { TriesBy older (HasRecords older lab) (λ t. are_kept_records_by t lab forms.now count)
+    ensures tries { TriesBy older (HasRecords older lab)
+        (λ t. are_kept_records_by t lab forms.now count)
         (λ t made. made ≡ records_by t lab code.now forms.now)
         (D.state conn.old) (D.state conn.new) result }
+    ensures chained { IfOk result (All (IsChained code.now)) }
 {
     let heads = record_heads_at(alloc, conn, lab, count)?;
     records_whole(alloc, conn, older, lab, code, forms, heads)

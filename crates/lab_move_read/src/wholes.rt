@@ -1,8 +1,9 @@
 //! A laboratory, whole.
 
-ghost use Rattle.std.specs.Prelude.{◌≡◌, IfErr};
+ghost use Rattle.std.specs.Prelude.{◌≡◌, All, IfErr, IfOk};
 ghost use Rattle.sqlite.specs.State.{HasCleanDisk};
 ghost use Rattle.lab_store_tables.specs.Rows.{Tables};
+ghost use Rattle.lab_move_tables.specs.Chained.{IsChained};
 ghost use Rattle.lab_move_tables.specs.Reading.{ReadsOldWhere, ReadsWhere};
 ghost use Rattle.lab_move_tables.specs.Standing.{StandsBy};
 ghost use Rattle.lab_move_read_people.specs.Kept.{TriesBy};
@@ -13,7 +14,7 @@ ghost use Rattle.lab_move_read.specs.Laboratories.{head_of, people_of, work_of, 
 use crate::{forms_alone, forms_at, records_at};
 use lab_forms_texts::{LabCode, Series};
 use lab_move_read_people::{KeptFault, persons_at, sessions_at, trail_at};
-use lab_move_tables::{Older, lab_rows};
+use lab_move_tables::{ChainedLab, Older, lab_rows};
 use lab_people_access::{Person, Session};
 use lab_records_kept::{FormVersion, Lab, Record};
 use lab_store_read::{ReadFault, Readable};
@@ -74,9 +75,10 @@ fn work_at<D: Readable>(
     older: Older,
     head: &LabHead,
 ) -> Result<Work, KeptFault>
-    ensures { TriesBy older (HasWork older head.now.id) (λ t. is_kept_work t head.now)
+    ensures tries { TriesBy older (HasWork older head.now.id) (λ t. is_kept_work t head.now)
         (λ t work. work ≡ work_of t head.now)
         (D.state conn.old) (D.state conn.new) result }
+    ensures chained { IfOk result (λ work. All (IsChained head.now.code) work.records) }
 {
     let forms = forms_at(alloc, conn, older, head.id)?;
     let records = records_at(
@@ -101,7 +103,7 @@ fn lab_whole<D: Readable>(
     conn: &mut D,
     older: Older,
     head: LabHead,
-) -> Result<Lab, KeptFault>
+) -> Result<ChainedLab, KeptFault>
     ensures { TriesBy older (λ db t. HasParts older db t head) (λ t. is_kept_head t head)
         (λ t lab. lab ≡ lab_by t head)
         (D.state conn.old) (D.state conn.new) result }
@@ -109,7 +111,7 @@ fn lab_whole<D: Readable>(
     let people = people_at(alloc, conn, older, &head)?;
     let work = work_at(alloc, conn, older, &head)?;
     let trail = trail_at(alloc, conn, head.id, head.trail)?;
-    Ok(Lab {
+    Ok(ChainedLab::new(Lab {
         code: head.code,
         name: head.name,
         last: head.last,
@@ -119,7 +121,7 @@ fn lab_whole<D: Readable>(
         forms: work.forms,
         records: work.records,
         trail,
-    })
+    }))
 }
 
 /// Returns the laboratory of the code, whole, as one of today's, with what the older schema didn't
@@ -135,7 +137,7 @@ pub fn whole<D: Readable>(
     conn: &mut D,
     older: Older,
     code: &LabCode,
-) -> Result<Option<Lab>, KeptFault>
+) -> Result<Option<ChainedLab>, KeptFault>
     ensures reads { ReadsWhere (StandsBy older) (HasWhole older code.now)
         (λ fault. fault ≡ Storage) (λ t found. IsLabOf t code.now found)
         (D.state conn.old) (D.state conn.new) result }

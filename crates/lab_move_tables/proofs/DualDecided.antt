@@ -17,8 +17,9 @@ use Rattle.lab_records_kept.specs.declared.labs.Lab.{Lab}
 use Rattle.lab_records_kept.specs.Values.{version_state, has_entered}
 use Rattle.lab_records_kept.specs.Bound.{IsBoundRecord, IsBound}
 use Rattle.lab_records_kept.specs.Dual.{EnteredNone, ThirdDiffers, AreSigners, SaysOfApproval, IsSignedDually, IsSettled, AreSettledButLast, IsDualRecord, IsDual}
+use Rattle.lab_move_tables.specs.Chained.{IsChained, AreChained}
 use Rattle.lab_move_tables.specs.Tests.{says_of_approval, entered_none, third_differs, are_signers, is_signed_dually, is_settled, are_settled_after, is_dual_record, is_sound_record}
-use Rattle.lab_move_tables.proofs.Decisions.{both, as_said, all_decided, not_decided, differs_decided}
+use Rattle.lab_move_tables.proofs.Decisions.{both, as_said, all_decided, all_decided_where, not_decided, differs_decided}
 use Rattle.lab_move_tables.proofs.BoundDecided.{bound_decided}
 
 -- ---- a version
@@ -92,8 +93,8 @@ dual_decided kept =
 abbrev IsSoundRecord : List ℕ → Record → Type 0
 IsSoundRecord lab kept = IsDualRecord kept × IsBoundRecord lab kept
 
-pub sound_decided : (lab : Lab) → Decides (list_all (is_sound_record lab.code) lab.records) (IsBound lab × IsDual lab)
-sound_decided lab =
-    as_said (all_decided (is_sound_record lab.code) (IsSoundRecord lab.code) (λ kept. both (dual_decided kept) (bound_decided lab.code kept)) lab.records)
+pub sound_decided : (lab : Lab) → AreChained lab → Decides (list_all (is_sound_record lab.code) lab.records) (IsBound lab × IsDual lab)
+sound_decided lab chained =
+    as_said (all_decided_where (is_sound_record lab.code) (IsSoundRecord lab.code) (IsChained lab.code) (λ kept one. both (dual_decided kept) (bound_decided lab.code kept one)) lab.records chained)
     (λ h. (All-weaker (IsSoundRecord lab.code) (IsBoundRecord lab.code) (λ kept one. one.1) lab.records h, All-weaker (IsSoundRecord lab.code) IsDualRecord (λ kept one. one.0) lab.records h))
     (λ h k d below. (h.1 k d below, h.0 k d below))

@@ -1,7 +1,7 @@
 -- Values from outside, so that a wrong test does not check: versions that are settled in turn, approvals that a text tells of,
 -- numbers with a gap.
-use Rattle.std.proofs.Common.{◌≡◌, ℕ, true, false, List, [], ◌∷◌, Some, None, refl}
-use Rattle.std.specs.Prelude.{codes, replicate}
+use Rattle.std.proofs.Common.{◌≡◌, ℕ, true, false, List, [], ◌∷◌, refl}
+use Rattle.std.specs.Prelude.{codes}
 use Rattle.lab_seal_versions.specs.declared.versions.Format.TheVariants.{One, Two}
 use Rattle.lab_seal_versions.specs.declared.seals.Meaning.{Meaning}
 use Rattle.lab_seal_versions.specs.declared.seals.Meaning.TheVariants.{Authorship, Review}
@@ -9,7 +9,7 @@ use Rattle.lab_records_kept.specs.declared.records.Record.{Record}
 use Rattle.lab_records_kept.specs.declared.records.Version.{Version}
 use Rattle.lab_records_kept.specs.declared.records.Signature.{Signature}
 use Rattle.lab_records_kept.proofs.KnownDefaults.{bare_entry, bare_form, bare_record, bare_signature, bare_version}
-use Rattle.lab_move_tables.specs.Tests.{is_same, says_of_approval, third_differs, are_settled_after, is_signed_dually}
+use Rattle.lab_move_tables.specs.Tests.{says_of_approval, third_differs, are_settled_after, is_signed_dually}
 use Rattle.lab_move_tables.specs.Orders.{are_numbered}
 
 abbrev signed : List ℕ → Meaning → Signature
@@ -40,8 +40,7 @@ pub known_signed : (is_signed_dually kept released ≡ true) × (is_signed_duall
     × (is_signed_dually kept (entered (signed (codes "dan") Review ∷ [])) ≡ false)
 known_signed = (refl, refl, refl, refl)
 
-pub known_tests : (is_same None (Some []) ≡ false) × (is_same (Some (replicate 32 7)) (Some (replicate 32 7)) ≡ true)
-    × (says_of_approval One true ≡ false) × (says_of_approval (Two true) true ≡ true)
+pub known_tests : (says_of_approval One true ≡ false) × (says_of_approval (Two true) true ≡ true)
     × (third_differs (signed (codes "eve") Review ∷ signed (codes "eve") Review ∷ []) ≡ false)
     × (are_numbered (λ (n : ℕ). n) (1 ∷ 2 ∷ 4 ∷ []) ≡ false) × (are_numbered (λ (n : ℕ). n) (1 ∷ 2 ∷ []) ≡ true)
-known_tests = (refl, refl, refl, refl, refl, refl, refl)
+known_tests = (refl, refl, refl, refl, refl)

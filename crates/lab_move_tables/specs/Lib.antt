@@ -1,3 +1,4 @@
+pub mod Chained
 pub mod Checks
 pub mod KeptLabs
 pub mod OldRows

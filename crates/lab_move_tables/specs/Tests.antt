@@ -1,7 +1,7 @@
 -- The tests that decide whether a record is bound, and whether it is under dual control (21 CFR
 -- 11.70; ISO/IEC 17025:2017, 7.5.1): each test is true exactly where what `Bound` and `Dual` of
 -- `lab_records_kept` say is so.
-use Rattle.std.specs.Prelude.{ℕ, Bool, true, false, not, ◌&&◌, List, [], ◌∷◌, Option, Some, None, is_some, bytes_eq}
+use Rattle.std.specs.Prelude.{ℕ, Bool, true, false, not, ◌&&◌, List, [], ◌∷◌, is_some, bytes_eq}
 use Rattle.std.specs.List.{list_all}
 use Rattle.std.specs.Option.{option_map_or}
 use Rattle.std.proofs.Math.Bool.{beq}
@@ -12,35 +12,23 @@ use Rattle.lab_records_kept.specs.declared.records.Record.{Record}
 use Rattle.lab_records_kept.specs.declared.records.Version.{Version}
 use Rattle.lab_records_kept.specs.declared.records.Signature.{Signature}
 use Rattle.lab_records_kept.specs.declared.labs.Lab.{Lab}
-use Rattle.lab_records_kept.specs.Digests.{previous_of, digest_of, seal_for}
+use Rattle.lab_records_kept.specs.Digests.{digest_of, seal_for}
 use Rattle.lab_records_kept.specs.Values.{version_state, has_entered}
 
 -- ---- bound
-
-abbrev pub is_same : Option (List ℕ) → Option (List ℕ) → Bool
-is_same None None = true
-is_same None (Some other) = false
-is_same (Some one) None = false
-is_same (Some one) (Some other) = bytes_eq one other
-
--- a version amends one of the digest, or nothing
-abbrev pub amends : Option (List ℕ) → Version → Bool
-amends before version = is_same (previous_of version) before
 
 -- a signature names the digest, and its seal recomputes
 abbrev pub is_bound_by : List ℕ → List ℕ → Signature → Bool
 is_bound_by lab digest signature =
     bytes_eq signature.digest digest && bytes_eq signature.seal (seal_for lab signature)
 
--- versions behind one of a digest, or none
-abbrev pub is_bound_after : List ℕ → Record → Option (List ℕ) → List Version → Bool
-is_bound_after lab kept before [] = true
-is_bound_after lab kept before (one ∷ others) =
-    amends before one && list_all (is_bound_by lab (digest_of lab kept one)) one.signatures
-    && is_bound_after lab kept (Some (digest_of lab kept one)) others
+-- those of a version do
+abbrev pub is_sealed : List ℕ → Record → Version → Bool
+is_sealed lab kept version = list_all (is_bound_by lab (digest_of lab kept version)) version.signatures
 
+-- and those of all versions of a record, in which each names the digest of the one before it
 abbrev pub is_bound_record : List ℕ → Record → Bool
-is_bound_record lab kept = is_bound_after lab kept None kept.versions
+is_bound_record lab kept = list_all (is_sealed lab kept) kept.versions
 
 -- ---- under dual control
 

@@ -1,30 +1,15 @@
-//! Whether signatures are bound to what they sign, and versions to those that they amend.
+//! Whether signatures are bound to what they sign.
 
-ghost use Rattle.std.specs.Prelude.{◌≡◌, IfOk, None};
+ghost use Rattle.std.specs.Prelude.{◌≡◌, ◌<◌, ℕ, List, length, Some, IfOk, IfSome, option_map, slice_get};
 ghost use Rattle.std.specs.List.{list_all};
 ghost use Rattle.lab_records_kept.specs.Digests.{digest_of, sealed_parts};
-ghost use Rattle.lab_move_tables.specs.Tests.{amends, is_bound_by, is_bound_after, is_bound_record};
+ghost use Rattle.lab_move_tables.specs.Chained.{IsChained};
+ghost use Rattle.lab_move_tables.specs.Tests.{is_bound_by, is_bound_record};
 
 use lab_forms_texts::{LabCode, OutOfMemory};
 use lab_records_kept::{Record, SealParts, Signature, Version};
 use lab_seal_versions::{Digest, seal};
 use std::alloc::Global;
-
-// Whether the version amends one of the digest, or nothing where there is none.
-fn amends(version: &Version, before: Option<Digest>) -> bool
-    ensures { result ≡ amends before version.now }
-{
-    match version.origin.amendment() {
-        Some(amendment) => match before {
-            Some(digest) => amendment.previous.bytes() == digest.bytes(),
-            None => false,
-        },
-        None => match before {
-            Some(_) => false,
-            None => true,
-        },
-    }
-}
 
 // What the seal of a signature covers, as copies.
 fn sealed_parts(lab: &LabCode, signature: &Signature) -> Result<SealParts, OutOfMemory>
@@ -68,31 +53,36 @@ fn are_bound_by(
     Ok(true)
 }
 
-// Whether the versions, behind one of the digest or none, amend each the one before it, and their signatures are bound.
-fn are_bound_after(
+// The digest of the version at the place, if the next version names it.
+fn named_digest(kept: &Record, place: usize) -> Option<Digest>
+    requires { place < length kept.now.versions }
+    ensures { IfSome result (λ digest. (lab : List ℕ) → IsChained lab kept.now →
+        option_map (digest_of lab kept.now) (slice_get kept.now.versions place) ≡ Some digest) }
+{
+    let next = kept.versions.as_slice().get(place + 1)?;
+    let amendment = next.origin.amendment().as_ref()?;
+    Some(amendment.previous)
+}
+
+// The digest of the version at the place, which is hashed only if it is the last one.
+fn digest_at(
     alloc: Global,
     lab: &LabCode,
     kept: &Record,
-    versions: &[Version],
-) -> Result<bool, OutOfMemory>
-    ensures { IfOk result
-        (λ yes. yes ≡ is_bound_after lab.now kept.now None versions.now) }
+    place: usize,
+    version: &Version,
+) -> Result<Digest, OutOfMemory>
+    requires chained { IsChained lab.now kept.now }
+    requires there { slice_get kept.now.versions place ≡ Some version.now }
+    ensures { IfOk result (λ digest. digest ≡ digest_of lab.now kept.now version.now) }
 {
-    let mut before = None;
-    for version in versions {
-        let digest = kept.digest_of(alloc, lab, version)?;
-        if !amends(version, before) {
-            return Ok(false);
-        }
-        if !are_bound_by(lab, digest, version.signatures.as_slice())? {
-            return Ok(false);
-        }
-        before = Some(digest);
+    match named_digest(kept, place) {
+        Some(digest) => Ok(digest),
+        None => kept.digest_of(alloc, lab, version),
     }
-    Ok(true)
 }
 
-/// Whether the signatures and the versions of a record are bound, in the laboratory of the code.
+/// Whether the signatures of a record are bound, in the laboratory of the code.
 ///
 /// # Errors
 /// Memory ran out.
@@ -101,7 +91,14 @@ pub(crate) fn is_bound_record(
     lab: &LabCode,
     kept: &Record,
 ) -> Result<bool, OutOfMemory>
+    requires chained { IsChained lab.now kept.now }
     ensures { IfOk result (λ yes. yes ≡ is_bound_record lab.now kept.now) }
 {
-    are_bound_after(alloc, lab, kept, kept.versions.as_slice())
+    for (place, version) in kept.versions.as_slice().iter().enumerate() {
+        let digest = digest_at(alloc, lab, kept, place, version)?;
+        if !are_bound_by(lab, digest, version.signatures.as_slice())? {
+            return Ok(false);
+        }
+    }
+    Ok(true)
 }

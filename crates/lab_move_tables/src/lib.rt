@@ -2,12 +2,13 @@
 //! when its rows are well kept (21 CFR 11.10(c), "protection of records to enable their accurate and ready retrieval
 //! throughout the records retention period"; ISO/IEC 17025:2017, 8.4.2); the fifteen questions that read them; and
 //! whether a laboratory is within its limits, bound and under dual control, for which its digests and seals are computed
-//! again (21 CFR 11.70, signatures "linked to their respective electronic records", and 11.10(a), "the ability to discern
+//! again, each once (21 CFR 11.70, signatures "linked to their respective electronic records", and 11.10(a), "the ability to discern
 //! invalid or altered records").
 #![tactic(auto)]
 
 mod asking;
 mod bound;
+mod chained;
 mod checks;
 mod dual;
 mod forms;
@@ -21,6 +22,7 @@ mod records;
 mod sound;
 mod trails;
 
+pub use chained::ChainedLab;
 pub use checks::{are_owned, are_rows_numbered};
 pub use forms::{choice_rows, field_rows, form_rows};
 pub use labs::{code_rows, lab_rows};

@@ -12,9 +12,9 @@ ghost use Rattle.lab_move_write.specs.Commits.{MakesAtOnce};
 ghost use Rattle.lab_move_write.specs.Unfinished.{Finishes};
 ghost use Rattle.lab_move_write.specs.Namings.{NamesSchema, naming_text};
 
-use crate::inside::Inside;
 use lab_store_read::{ReadFault, read_fault};
 use lab_store_write::Writable;
+use lab_store_write::running::Inside;
 use lab_store_write::statements::run;
 use sqlite::{Alter, Connection, Error, Transaction};
 

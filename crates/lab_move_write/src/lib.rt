@@ -5,7 +5,6 @@
 #![tactic(auto)]
 
 mod finishing;
-mod inside;
 mod kinds;
 mod making;
 mod naming;
@@ -16,7 +15,6 @@ mod schemas;
 mod texts;
 
 pub use finishing::finish;
-pub use inside::Inside;
 pub use making::make_tables;
 pub use naming::a_named_file_is_well_kept;
 pub use placing::place_lab;

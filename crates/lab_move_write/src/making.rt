@@ -14,11 +14,11 @@ ghost use Rattle.lab_move_write.specs.Commits.{MakesAtOnce};
 ghost use Rattle.lab_move_write.specs.Tables.{own_tables, schema_of};
 ghost use Rattle.lab_move_write.specs.Unfinished.{IsUnfinished, Begins, Makes};
 
-use crate::inside::Inside;
 use crate::schemas::is_taken;
 use crate::texts;
 use lab_store_files::FileFault;
 use lab_store_write::Writable;
+use lab_store_write::running::Inside;
 use lab_store_write::statements::run;
 use sqlite::{Alter, Connection, Error, Transaction};
 

@@ -15,12 +15,12 @@ ghost use Rattle.lab_move_write.specs.Commits.{MakesAtOnce};
 ghost use Rattle.lab_move_write.specs.Placings.{PlacesByRules};
 ghost use Rattle.lab_move_write.specs.Carrying.{Carries};
 
-use crate::Inside;
 use crate::kinds::add_kinds;
 use crate::progress::MoveProgress;
 use lab_records_kept::Lab;
 use lab_store_read::{ReadFault, read_fault};
 use lab_store_write::Writable;
+use lab_store_write::running::Inside;
 use lab_store_write_changes::add_lab;
 use sqlite::{Alter, Connection, Error, Transaction};
 

@@ -32,11 +32,7 @@ pub fn check_for<M: Outside<Volume: Volume>, R: Read + Drop, W: Writers>(
         (W.Errors.contents streams.old.errors) (W.Errors.contents streams.new.errors)) }
 {
     host.volume.advise(Trouble::CopyAwaited);
-    match check(host.alloc, input, &mut streams.output, &mut streams.errors) {
-        Ok(checked) => {
-            advise_of(&mut host.volume, checked.flaw);
-            Ok(checked.status)
-        }
-        Err(untold) => Err(untold),
-    }
+    let checked = check(host.alloc, input, &mut streams.output, &mut streams.errors)?;
+    advise_of(&mut host.volume, checked.flaw);
+    Ok(checked.status)
 }

@@ -145,11 +145,7 @@ impl Spot {
 
     // What keeps JSON from being a founding that is taken.
     fn within(alloc: Global, value: &Value) -> Spot {
-        let founders = match value.get("founders") {
-            Some(found) => found.as_array(),
-            None => None,
-        };
-        match founders {
+        match value.get("founders").and_then(Value::as_array) {
             Some(founders) => {
                 spot_among(alloc, value, founders.as_slice()).unwrap_or(Spot::Members)
             }

@@ -68,10 +68,8 @@ fn decline_to_serve<M: Outside<Volume: Volume>, E: Write>(
 fn left_of<S: Alter + Drop>(live_desk: LiveDesk<Store<S>, FileOpener<'_>>) -> Option<Finished<S>>
     ensures { result ≡ option_map (λ desk. desk.keeper) live_desk.entry }
 {
-    match live_desk.into_keeper() {
-        Some(store) => Some(Finished::new(store.into_connection())),
-        None => None,
-    }
+    let store = live_desk.into_keeper()?;
+    Some(Finished::new(store.into_connection()))
 }
 
 // Serves the laboratories of the file at the path. Answers the status, and the connection, which is

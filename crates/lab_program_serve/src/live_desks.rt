@@ -180,10 +180,7 @@ impl<S: Keeper + Drop, O: Drop> LiveDesk<S, O> {
             desk,
             shut: _,
         } = self;
-        match desk {
-            Some(desk) => Some(desk.into_keeper()),
-            None => None,
-        }
+        Some(desk?.into_keeper())
     }
 }
 

@@ -13,13 +13,13 @@ ghost use Rattle.lab_store.specs.Causes.{ChangesHaveTheirCause, TransactionHasIt
 ghost use Rattle.lab_store.specs.Commits.{EndsStep};
 ghost use Rattle.lab_store.specs.Counting.{IsKeeping};
 
-use crate::inside::Inside;
 use crate::tables::Tables;
 use lab_forms_texts::LabCode;
 use lab_records_kept::Change;
 use lab_store_load::{Counted, lab_id_at};
 use lab_store_read::{BadStore, ReadFault, read_fault};
 use lab_store_write::RowId;
+use lab_store_write::running::Inside;
 use lab_store_write_changes::all_inside;
 use sqlite::{Alter, Connection, Error, Transaction};
 use std::alloc::Global;

@@ -6,7 +6,6 @@
 mod applying;
 mod founding;
 mod givers;
-mod inside;
 mod openings;
 mod places;
 mod store;

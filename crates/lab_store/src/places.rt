@@ -15,12 +15,12 @@ ghost use Rattle.lab_store.specs.Causes.{CommitHasItsCause, TransactionHasItsCau
 ghost use Rattle.lab_store.specs.Commits.{EndsStep};
 ghost use Rattle.lab_store_write_changes.specs.NewbornRows.{AddsRows};
 
-use crate::inside::Inside;
 use lab_forms_texts::LabCode;
 use lab_records_keeper::PlacingFault;
 use lab_records_kept::Lab;
 use lab_store_read::{ReadFault, Readable, read_fault};
 use lab_store_read_records::lab_rows;
+use lab_store_write::running::Inside;
 use lab_store_write_changes::add_rows;
 use sqlite::{Alter, Connection, Error, Row, Transaction};
 

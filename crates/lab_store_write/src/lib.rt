@@ -11,6 +11,7 @@ mod named;
 mod passwords;
 mod persons;
 mod places;
+pub mod running;
 mod sessions;
 pub mod statements;
 mod trails;

@@ -11,7 +11,7 @@ use sqlite::{Error, Row};
 /// of the state.
 ///
 /// Writers name no transaction. So what is proved of them holds over everything that takes
-/// statements in this way, and a crate of writers doesn't depend on the transaction.
+/// statements in this way, as `Inside` does.
 pub trait Writable {
     /// The tables that are shown, and what a statement does to them.
     ghost state: { Self → State };

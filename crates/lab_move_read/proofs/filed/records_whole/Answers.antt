@@ -1,7 +1,9 @@
-use Rattle.std.proofs.Common.{◌≡◌, ◌∷◌, length, sym, ap, ◌∙◌, arith, rules, w64}
+use Rattle.std.proofs.Common.{◌≡◌, [], ◌∷◌, ◌++◌, length, sym, ap, ◌∙◌, arith, rules, w64}
 use Rattle.std.proofs.lemmas.Int.{to_z-of_z}
+use Rattle.std.proofs.lemmas.List.Elements.{All-nil, All-push, All-same}
 use Rattle.std.specs.Vec.Iter.{into_iter_items}
 use Rattle.lab_store_read.proofs.Loops.{none_left}
+use Rattle.lab_move_tables.specs.Chained.{IsChained}
 use Rattle.lab_move_read_people.proofs.KeptLoops.{none_kept, one_kept, one_ends, push_ends, all_kept}
 use Rattle.lab_move_read.proofs.filed.records_whole.Goals as goal
 
@@ -10,6 +12,7 @@ loop-head-init g c =
     let all : into_iter_items c.into_iter-head-iterator.result ≡ c.args.heads.items = search rules in
     record {
       kept = none_kept _ _ _ c.args.heads.items _ _ (g.D.Readable.state c.args.conn.now) c.new-made.ensures all;
+      chained = All-same (IsChained c.args.code.now) _ [] c.new-made.ensures (All-nil (IsChained c.args.code.now));
       counted = search rules;
     }
 
@@ -17,7 +20,9 @@ pub loop-head-preserved : goal.loop-head-preserved
 loop-head-preserved g c =
     let steps : into_iter_items c.loop-head.head-iterator ≡ c.in-Some.head ∷ into_iter_items c.next.new.self = c.in-Some.ensures.steps.0 in
     record {
-      kept = one_kept c.loop-head.invariant.kept steps c.in_ok-kept.ensures c.in_ok-push.ensures.ok (λ t is. is);
+      kept = one_kept c.loop-head.invariant.kept steps c.in_ok-kept.ensures.tries c.in_ok-push.ensures.ok (λ t is. is);
+      chained = All-same (IsChained c.args.code.now) _ (c.loop-head.made ++ c.in_ok-kept.kept ∷ []) c.in_ok-push.ensures.ok
+          (All-push (IsChained c.args.code.now) c.loop-head.made c.in_ok-kept.kept c.loop-head.invariant.chained c.in_ok-kept.ensures.chained);
       counted =
           let was = c.loop-head.invariant.counted in
           let less = c.in-Some.ensures.steps.1 in
@@ -25,14 +30,17 @@ loop-head-preserved g c =
           omega arith;
     }
 
-pub returns-in_err-kept : goal.returns-in_err-kept
-returns-in_err-kept g c =
-    one_ends (rw (to_z-of_z w64 c.args.lab c.ranges.lab) at c.loop-head.invariant.kept) c.in-Some.ensures.steps.0 c.in_err-kept.field-0.0 (rw (to_z-of_z w64 c.args.lab c.ranges.lab) at c.in_err-kept.ensures)
+pub returns-in_err-kept-clause-tries : goal.returns-in_err-kept-clause-tries
+returns-in_err-kept-clause-tries g c =
+    one_ends (rw (to_z-of_z w64 c.args.lab c.ranges.lab) at c.loop-head.invariant.kept) c.in-Some.ensures.steps.0 c.in_err-kept.field-0.0 (rw (to_z-of_z w64 c.args.lab c.ranges.lab) at c.in_err-kept.ensures.tries)
     c.from_residual.result c.from_residual.ensures.1
 
-pub returns-in_err-push : goal.returns-in_err-push
-returns-in_err-push g c = push_ends c.loop-head.invariant.kept c.in_ok-kept.ensures c.from_residual-in_err-push.result c.from_residual-in_err-push.ensures.1
+pub returns-in_err-push-clause-tries : goal.returns-in_err-push-clause-tries
+returns-in_err-push-clause-tries g c = push_ends c.loop-head.invariant.kept c.in_ok-kept.ensures.tries c.from_residual-in_err-push.result c.from_residual-in_err-push.ensures.1
 
-pub returns : goal.returns
-returns g c =
+pub returns-clause-tries : goal.returns-clause-tries
+returns-clause-tries g c =
     all_kept (rw (to_z-of_z w64 c.args.lab c.ranges.lab) at c.loop-head.invariant.kept) (none_left _ (sym c.loop-head.invariant.counted ∙ c.in-None.ensures.steps.0)) (λ t is. is)
+
+pub returns-clause-chained : goal.returns-clause-chained
+returns-clause-chained g c = c.loop-head.invariant.chained

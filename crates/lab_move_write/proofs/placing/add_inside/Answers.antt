@@ -3,7 +3,7 @@ use Rattle.sqlite.specs.Held.{state}
 use Rattle.sqlite.specs.State.{HasCleanDisk}
 use Rattle.lab_store_write.specs.Causes.{FailsBy, IsTooGreat}
 use Rattle.lab_store_write.proofs.Transactions.{fails_as}
-use Rattle.lab_move_write.specs.declared.inside.Inside.{Inside}
+use Rattle.lab_store_write.specs.declared.running.Inside.{Inside}
 use Rattle.lab_move_write.proofs.placing.add_inside.Goals as goal
 
 pub returns-clause-failed : goal.returns-clause-failed

@@ -3,7 +3,7 @@ use Rattle.sqlite.specs.Held.{state}
 use Rattle.sqlite.specs.State.{HasCleanDisk}
 use Rattle.lab_store_write.specs.Causes.{FailsBy}
 use Rattle.lab_store_write_changes.specs.Causes.{OneIsTooMuch}
-use Rattle.lab_store.specs.declared.inside.Inside.{Inside}
+use Rattle.lab_store_write.specs.declared.running.Inside.{Inside}
 use Rattle.lab_store_write.proofs.Transactions.{fails_as}
 use Rattle.lab_store.proofs.applying.make_inside.Goals as goal
 

@@ -2,7 +2,7 @@
 
 ghost use Rattle.sqlite.specs.Held.{state as state_held};
 
-use lab_store_write::Writable;
+use crate::writable::Writable;
 use sqlite::types::ValueRef;
 use sqlite::{Alter, Error, Row, Transaction};
 
