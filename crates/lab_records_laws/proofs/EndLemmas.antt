@@ -1,6 +1,7 @@
 -- The end of a command: the changes make of the laboratory what the step makes.
-use Rattle.std.proofs.Common.{◌≡◌, ◌≤◌, ℕ, ◌+◌, Bool, true, false, cond, List, [], ◌∷◌, ◌++◌, length, Option, Some, refl, sym, ◌∙◌, ap, subst, nat_le}
+use Rattle.std.proofs.Common.{◌≡◌, ◌≤◌, inl, inr, ℕ, ◌+◌, Bool, true, false, cond, List, [], ◌∷◌, ◌++◌, length, Option, Some, refl, sym, ◌∙◌, ap, subst, nat_le}
 use Rattle.std.specs.Prelude.{bytes_eq}
+use Rattle.std.specs.List.{list_any}
 use Rattle.std.proofs.lemmas.Bool.{and_parts, eqb-true}
 use Rattle.std.proofs.lemmas.List.{nil_from_length}
 use Rattle.lab_people_access.specs.declared.sessions.Session.{Session}
@@ -8,7 +9,7 @@ use Rattle.lab_people_access.specs.declared.refusals.PeopleRefusal.TheVariants.{
 use Rattle.lab_people_access.specs.Sessions.{session_of, touched_session}
 use Rattle.lab_records_kept.specs.declared.labs.Lab.{Lab}
 use Rattle.lab_records_kept.specs.declared.changes.Change.{Change}
-use Rattle.lab_records_kept.specs.declared.changes.Change.TheVariants.{Last}
+use Rattle.lab_records_kept.specs.declared.changes.Change.TheVariants.{Last, SessionSet}
 use Rattle.lab_records_kept.specs.declared.trails.Deed.{Deed}
 use Rattle.lab_records_kept.specs.declared.trails.TrailRow.{TrailRow}
 use Rattle.lab_records_kept.specs.Limits.{count_limit, stray_limit}
@@ -24,12 +25,13 @@ use Rattle.lab_records_laws.proofs.FitPersons.{touched_fits}
 use Rattle.lab_records_machine.specs.declared.done.Done.{Done}
 use Rattle.lab_records_machine.specs.declared.done.Done.TheVariants.{Refused, Failed, Read, Made}
 use Rattle.lab_records_laws.specs.declared.outcome.Outcome.{Outcome}
-use Rattle.lab_records_laws.specs.Deciding.{trail_row, failure_changes, outcome, made_end, end_by, end_on, touch_changes, is_noted, noted_end, opening_end}
+use Rattle.lab_records_laws.specs.Deciding.{trail_row, failure_changes, outcome, made_end, end_by, end_on, is_session_set, touch_changes, is_noted, noted_end, opening_end}
 use Rattle.lab_records_laws.proofs.Joining.{changed_on, all_fit_on, changes_know}
 use Rattle.lab_records_laws.proofs.OwnCases.{case_of, slice_for}
 use Rattle.lab_records_laws.proofs.CaseFits.{Adds, FitsDone}
 use Rattle.lab_records_laws.proofs.OpenFits.{TakesMoment}
 use Rattle.lab_records_laws.proofs.Failing.{BecomesWhere, failing_is}
+use Rattle.lab_records_laws.proofs.SessionOnce.{SetsNoOther, SetsNoOtherDone, end_sets, once_is}
 
 -- what is decided is what is stepped, and fits on a premise
 pub record Matches (Premise : Type 0) (lab : Lab) (stepped : Stepped) (decided : Outcome)
@@ -119,10 +121,31 @@ own_ended Premise lab moment person (Made reply deed own) few fits =
 
 -- ---- the note that a request came
 
-touching_fits : (lab : Lab) (moment : ℕ) (session : Session)
-    → session_of lab.sessions session.token ≡ Some session → AllFit lab (touch_changes moment session)
-touching_fits lab moment session found =
-    (tt, (touched_fits (change lab (Last moment)) moment session found, tt))
+-- the session is set, or what the request changes sets it
+touching_case : (own_set : Bool) (lab : Lab) (moment : ℕ) (session : Session) (own : List Change)
+    → list_any is_session_set own ≡ own_set
+    → session_of lab.sessions session.token ≡ Some session
+    → SetsNoOther (touched_session moment session) own
+    → BecomesWhere (AllFit (touched lab moment session) own) lab
+    ((Last moment ∷ cond own_set [] (SessionSet (touched_session moment session) ∷ [])) ++ own)
+    (changed (touched lab moment session) own)
+touching_case true lab moment session own is found (inl sets) =
+    let once = once_is (at_moment moment lab) moment session own found sets in
+    record { fits = λ fit. (tt, once.fits fit); comes = once.comes }
+touching_case true lab moment session own is found (inr none) =
+    let never : false ≡ true = sym none ∙ is in absurd (cc)
+touching_case false lab moment session own is found sets = record {
+  fits = λ fit. (tt, (touched_fits (at_moment moment lab) moment session found, fit));
+  comes = refl;
+}
+
+touching_is : (lab : Lab) (moment : ℕ) (session : Session) (own : List Change)
+    → session_of lab.sessions session.token ≡ Some session
+    → SetsNoOther (touched_session moment session) own
+    → BecomesWhere (AllFit (touched lab moment session) own) lab
+    (touch_changes moment session own ++ own) (changed (touched lab moment session) own)
+touching_is lab moment session own found sets =
+    touching_case (list_any is_session_set own) lab moment session own refl found sets
 
 -- a session that is set as it is
 same_case : (test : Bool) (session one : Session) (others : List Session)
@@ -158,10 +181,11 @@ noted_case : (noted : Bool) (Premise : Type 0) (lab : Lab) (moment : ℕ) (sessi
     (stepped : Stepped) (ended : Outcome)
     → is_noted lab.last moment session ended.changes ≡ noted
     → session_of lab.sessions session.token ≡ Some session
+    → SetsNoOther (touched_session moment session) ended.changes
     → Matches Premise (touched lab moment session) stepped ended
-    → Matches Premise lab stepped
-    (outcome ended.reply (cond noted [] (touch_changes moment session ++ ended.changes)))
-noted_case true Premise lab moment session stepped ended noted found is =
+    → Matches Premise lab stepped (outcome ended.reply
+    (cond noted [] (touch_changes moment session ended.changes ++ ended.changes)))
+noted_case true Premise lab moment session stepped ended noted found sets is =
     let both = and_parts _ _ noted in
     let none : ended.changes ≡ [] =
     nil_from_length ended.changes (eqb-true (length ended.changes) 0 (and_parts _ _ both.0).0) in
@@ -173,22 +197,23 @@ noted_case true Premise lab moment session stepped ended noted found is =
       after = is.after
           ∙ ap Some (ap (λ c. changed (touched lab moment session) c) none ∙ same);
     }
-noted_case false Premise lab moment session stepped ended noted found is = record {
-  reply = is.reply;
-  fits = λ given. all_fit_on lab (touch_changes moment session) ended.changes
-      (touching_fits lab moment session found) (is.fits given);
-  after = is.after
-      ∙ ap Some (sym (changed_on lab (touch_changes moment session) ended.changes));
-}
+noted_case false Premise lab moment session stepped ended noted found sets is =
+    let touching = touching_is lab moment session ended.changes found sets in
+    record {
+      reply = is.reply;
+      fits = λ given. touching.fits (is.fits given);
+      after = is.after ∙ ap Some (sym touching.comes);
+    }
 
 pub noted_is : (Premise : Type 0) (lab : Lab) (moment : ℕ) (session : Session)
     (stepped : Stepped) (ended : Outcome)
     → session_of lab.sessions session.token ≡ Some session
+    → SetsNoOther (touched_session moment session) ended.changes
     → Matches Premise (touched lab moment session) stepped ended
     → Matches Premise lab stepped (noted_end lab.last moment session ended)
-noted_is Premise lab moment session stepped ended found is =
+noted_is Premise lab moment session stepped ended found sets is =
     noted_case (is_noted lab.last moment session ended.changes) Premise lab moment session
-    stepped ended refl found is
+    stepped ended refl found sets is
 
 -- ---- in a session
 
@@ -197,13 +222,15 @@ pub ended_is : (Premise : Type 0) (lab : Lab) (digest : Option (List ℕ)) (comm
     → (Premise → lab.strays ≤ stray_limit)
     → session_of lab.sessions session.token ≡ Some session
     → FitsDone Premise (touched lab moment session) person done
+    → SetsNoOtherDone (touched_session moment session) done
     → Matches Premise lab
     (ended (touched lab moment session) moment person (case_of (touched lab moment session) done))
     (noted_end lab.last moment session (end_on (slice_for lab digest command) moment person done))
-ended_is Premise lab digest command moment session person done few found fits =
+ended_is Premise lab digest command moment session person done few found fits sets =
     noted_is Premise lab moment session
     (ended (touched lab moment session) moment person (case_of (touched lab moment session) done))
     (end_on (slice_for lab digest command) moment person done) found
+    (end_sets (length lab.trail) lab.strays moment person (touched_session moment session) done sets)
     (own_ended Premise (touched lab moment session) moment person done few fits)
 
 -- ---- at an opening

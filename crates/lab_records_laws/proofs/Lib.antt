@@ -44,6 +44,7 @@ pub mod Rooms
 pub mod RuleCases
 pub mod RuleFits
 pub mod RunLemmas
+pub mod SessionOnce
 pub mod SigningFrame
 pub mod SigningStates
 pub mod SigningStep

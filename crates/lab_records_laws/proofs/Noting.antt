@@ -38,7 +38,7 @@ made_notes false moment reply refused changes notes = notes
 
 -- in a session: no change, where the request is noted already
 noted_first : (noted : Bool) (moment : ℕ) (session : Session) (own : List Change)
-    → NotesFirst moment (cond noted [] (touch_changes moment session ++ own))
+    → NotesFirst moment (cond noted [] (touch_changes moment session own ++ own))
 noted_first true moment session own = tt
 noted_first false moment session own = refl
 

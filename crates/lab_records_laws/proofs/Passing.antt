@@ -1,6 +1,6 @@
 -- How far a command gets on a part is how far it gets on the laboratory, and what is decided then is
 -- the step.
-use Rattle.std.proofs.Common.{◌≡◌, ◌≤◌, ℕ, Bool, true, false, cond, List, [], length, Option, Some, None, refl, sym, subst, nat_lt}
+use Rattle.std.proofs.Common.{◌≡◌, ◌≤◌, inr, ℕ, Bool, true, false, cond, List, [], length, Option, Some, None, refl, sym, subst, nat_lt}
 use Rattle.std.specs.Prelude.{option_map}
 use Rattle.sha2.specs.Sha256.{sha256}
 use Rattle.lab_forms_texts.specs.declared.tick.Tick.{Tick}
@@ -37,6 +37,7 @@ use Rattle.lab_records_laws.proofs.OwnCases.{slice_for, opened_is}
 use Rattle.lab_records_laws.proofs.RuleCases.{own_is}
 use Rattle.lab_records_laws.proofs.RuleFits.{own_fits}
 use Rattle.lab_records_laws.proofs.OpenFits.{open_fits, opened_takes}
+use Rattle.lab_records_laws.proofs.SessionOnce.{own_sets}
 use Rattle.lab_records_laws.proofs.EndLemmas.{Matches, noted_is, ended_is, opened_ended}
 
 -- no more strays were counted than may be, and a form that is to be made is one
@@ -71,7 +72,8 @@ passed_is lab digest tick command session caller found there =
     (end_on (slice_for lab digest (In command)) tick.moment caller.code done)))
     (sym (own_is lab digest session tick noted caller command))
     (ended_is (Premise lab (In command)) lab digest (In command) tick.moment session caller.code
-    done (λ given. given.0) found fits)
+    done (λ given. given.0) found fits
+    (own_sets (slice_for lab digest (In command)) tick noted caller command))
 
 answer_is : (lab : Lab) (digest : Option (List ℕ)) (tick : Tick) (command : SessionCommand)
     (reached : Passage) → IsPassageOf lab reached
@@ -82,7 +84,7 @@ answer_is lab digest tick command Stranger is =
 answer_is lab digest tick command (Barred session refusal) is =
     noted_is (Premise lab (In command)) lab tick.moment session
     (stays (touched lab tick.moment session) (Refused refusal)) (outcome (Refused refusal) []) is
-    (record { reply = refl; fits = λ given. tt; after = refl })
+    (inr refl) (record { reply = refl; fits = λ given. tt; after = refl })
 answer_is lab digest tick command (Passes session caller) is =
     passed_is lab digest tick command session caller is.0 is.1
 

@@ -1,6 +1,7 @@
 -- What is decided on a part of a laboratory: the reply, and the changes that are to be made, in
 -- order. That this is the step of the whole laboratory is a law (`what_is_decided`), not said here.
-use Rattle.std.specs.Prelude.{◌≡◌, ℕ, ◌+◌, Bool, false, ◌&&◌, ◌==◌, nat_le, nat_lt, List, [], ◌∷◌, ◌++◌, length, Some, if◌then◌else◌, ⊤}
+use Rattle.std.specs.Prelude.{◌≡◌, ℕ, ◌+◌, Bool, true, false, ◌&&◌, ◌==◌, nat_le, nat_lt, List, [], ◌∷◌, ◌++◌, length, Some, if◌then◌else◌, ⊤}
+use Rattle.std.specs.List.{list_any}
 use Rattle.lab_forms_texts.specs.declared.tick.Tick.{Tick}
 use Rattle.lab_people_access.specs.declared.sessions.Session.{Session}
 use Rattle.lab_people_access.specs.declared.sessions.Closing.TheVariants.{All}
@@ -103,9 +104,17 @@ end_on slice moment person done = end_by slice.counts.trail slice.strays moment 
 
 -- ---- the note that a request came by the session at the moment
 
--- what notes it
-abbrev pub touch_changes : ℕ → Session → List Change
-touch_changes moment session = Last moment ∷ SessionSet (touched_session moment session) ∷ []
+-- a change that sets a session
+abbrev pub is_session_set : Change → Bool
+is_session_set (SessionSet session) = true
+is_session_set _ = false
+
+-- what notes it: the laboratory gets the moment, and so does the session, where the request's other
+-- changes don't set it (the session that they set has the moment already)
+abbrev pub touch_changes : ℕ → Session → List Change → List Change
+touch_changes moment session own =
+    Last moment ∷ (if list_any is_session_set own then []
+    else SessionSet (touched_session moment session) ∷ [])
 
 -- it is noted already: laboratory and session have the moment, and the request changes nothing else
 abbrev pub is_noted : ℕ → ℕ → Session → List Change → Bool
@@ -115,7 +124,7 @@ is_noted last moment session own =
 -- the note, and then what else the request changes; no change, where it is noted already
 abbrev pub noted_changes : ℕ → ℕ → Session → List Change → List Change
 noted_changes last moment session own =
-    if is_noted last moment session own then [] else touch_changes moment session ++ own
+    if is_noted last moment session own then [] else touch_changes moment session own ++ own
 
 abbrev pub noted_end : ℕ → ℕ → Session → Outcome → Outcome
 noted_end last moment session ended =

@@ -1,9 +1,10 @@
 //! How a command ends on a part of a laboratory: how its request is noted, what a failed password
 //! changes, and what a full trail refuses.
 ghost use Rattle.std.specs.Prelude.{◌≡◌, ◌++◌, ◌∷◌, [], Some, false, nat_le, IfOk, OnErr};
+ghost use Rattle.std.specs.List.{list_any};
 ghost use Rattle.lab_records_kept.specs.Limits.{count_limit};
 ghost use Rattle.lab_records_kept.specs.Trails.{trail_row_of};
-ghost use Rattle.lab_records_laws.specs.Deciding.{IsWritten, failure_changes, outcome, made_end, end_by, touch_changes, is_noted, noted_changes, noted_end};
+ghost use Rattle.lab_records_laws.specs.Deciding.{IsWritten, failure_changes, outcome, made_end, end_by, is_session_set, touch_changes, is_noted, noted_changes, noted_end};
 
 use crate::outcome::Outcome;
 use crate::telling::{deed_changes, failure_outcome, refusal_outcome};
@@ -58,7 +59,7 @@ fn noted_changes(
         drop(own);
         return Ok(Series::new(alloc));
     }
-    match touch_changes(alloc, moment, session) {
+    match touch_changes(alloc, moment, session, &own) {
         Ok(before) => joined_list(before, own),
         Err(fault) => {
             drop(own);
@@ -75,15 +76,29 @@ fn is_noted(last: Moment, moment: Moment, session: &Session, own: &Series<Change
     own.as_slice().is_empty() && last == moment && session.last == moment
 }
 
-// The note of a request in the session at the moment: always two changes. Fails only if memory runs
-// out.
+// Whether one of the changes sets a session.
+fn sets_session(changes: &[Change]) -> bool
+    ensures { result ≡ list_any is_session_set changes.now }
+{
+    changes
+        .iter()
+        .any(|change| matches!(change, Change::SessionSet(_)))
+}
+
+// The note of a request in the session at the moment: always the laboratory's moment, and the
+// session if the other changes don't set it. Fails only if memory runs out.
 fn touch_changes(
     alloc: Global,
     moment: Moment,
     session: Session,
+    own: &Series<Change>,
 ) -> Result<Series<Change>, OutOfMemory>
-    ensures { IfOk result (λ changes. changes ≡ touch_changes moment session) }
+    ensures { IfOk result (λ changes. changes ≡ touch_changes moment session own.now) }
 {
+    if sets_session(own.as_slice()) {
+        drop(session);
+        return single(alloc, Change::Last(moment));
+    }
     let mut touched = session;
     touched.touch(moment);
     pair(alloc, Change::Last(moment), Change::SessionSet(touched))
