@@ -24,7 +24,7 @@ impl CopyFault {
         ensures { result ≡ fault_number self.now }
     {
         match self {
-            CopyFault::Flawed(flaw) => Some(flaw.number()),
+            CopyFault::Flawed(flaw) => flaw.number(),
             CopyFault::Read => None,
             CopyFault::Memory(fault) => fault.number(),
         }

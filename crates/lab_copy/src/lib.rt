@@ -16,8 +16,7 @@ pub use faults::CopyFault;
 pub use lab_copy_rows::{
     CopyLine, CopyOut, CopyOutFault, CopyRow, Counts, Digest, Edition, EndLine, EntryLine,
     EntryRow, Flaw, Format, Key, LabCode, Line, Meaning, Moment, Name, Note, Ordinal, OutOfMemory,
-    PersonCode, RecordLine, Seal, SealParts, SignatureLine, State, Unit, VersionLine, WriteFailure,
-    write_copy,
+    PersonCode, RecordLine, Seal, SealParts, SignatureLine, State, Unit, VersionLine, write_copy,
 };
 pub use lab_forms_texts::{Fault, RefusalKind};
 pub use places::{

@@ -5,3 +5,4 @@ pub mod Lines
 pub mod Outs
 pub mod Reading
 pub mod Rows
+pub mod Faults

@@ -1,11 +1,15 @@
 //! Flaws: what a check of a copy can find. Each flaw has a number and a word, which the interface
 //! shows.
-ghost use Rattle.std.specs.Prelude.{◌≡◌};
+ghost use Rattle.std.specs.Prelude.{◌≡◌, Some};
 ghost use Rattle.lab_copy_rows.specs.Flaws.{flaw_entry, flaw_row};
 
+use std::fmt;
+use thiserror::Error;
+
 /// What is wrong with a copy. Row 1 is the header. Rows are counted as a reader of CSV counts them:
-/// an empty line isn't a row, and a line feed between quotes doesn't end a row.
-#[derive(Clone, Copy, Debug, PartialEq, Eq)]
+/// an empty line isn't a row, and a line feed between quotes doesn't end a row. A flaw is printed as
+/// its word.
+#[derive(Clone, Copy, Debug, PartialEq, Eq, Error)]
 pub enum Flaw {
     /// No copy can have the row, at any place.
     BadRow(u64),
@@ -38,10 +42,10 @@ impl Flaw {
     }
 
     /// The number of the flaw.
-    pub fn number(&self) -> u32
-        ensures { result ≡ (flaw_entry self.now).number }
+    pub fn number(&self) -> Option<u32>
+        ensures { result ≡ Some (flaw_entry self.now).number }
     {
-        self.entry().0
+        Some(self.entry().0)
     }
 
     /// The word of the flaw.
@@ -63,5 +67,16 @@ impl Flaw {
             | Flaw::OnePerson(row) => Some(*row),
             Flaw::NoEnd => None,
         }
+    }
+}
+
+impl fmt::Display for Flaw {
+    ghost use Rattle.std.specs.Prelude.{Some};
+    ghost use Rattle.lab_copy_rows.specs.Flaws.{flaw_entry};
+
+    ghost output = { λ flaw. Some (flaw_entry flaw).word };
+
+    fn fmt<W: fmt::Write>(&self, f: &mut fmt::Formatter<W>) -> fmt::Result {
+        f.write_str(self.word())
     }
 }

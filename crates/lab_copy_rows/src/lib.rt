@@ -11,7 +11,7 @@ mod rows;
 mod sending;
 mod texts;
 
-pub use faults::{CopyOutFault, WriteFailure};
+pub use faults::CopyOutFault;
 pub use flaws::Flaw;
 pub use lab_seal_versions::{
     Digest, EntryRow, Format, Key, LabCode, Meaning, Moment, Name, Note, Ordinal, OutOfMemory,

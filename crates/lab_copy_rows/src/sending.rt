@@ -5,7 +5,7 @@ ghost use Rattle.csv.specs.Records.{fields_of};
 ghost use Rattle.lab_copy_rows.specs.Csv.{csv_row, csv_text};
 ghost use Rattle.lab_copy_rows.specs.Outs.{HasWritten, Sends};
 
-use crate::{CopyOutFault, CopyRow, OutOfMemory, WriteFailure};
+use crate::{CopyOutFault, CopyRow, OutOfMemory};
 use csv::{StringRecord, Writer, WriterBuilder};
 use std::alloc::Global;
 use std::io::Write;
@@ -26,7 +26,7 @@ pub(crate) fn send_rows<W: Write>(
         return Err(CopyOutFault::Memory);
     };
     if send(writer, &bytes) < bytes.len() {
-        return Err(CopyOutFault::Refused(WriteFailure));
+        return Err(CopyOutFault::Write);
     }
     Ok(())
 }

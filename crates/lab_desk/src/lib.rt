@@ -12,13 +12,13 @@ mod twin_runs;
 pub use desk::Desk;
 pub use desks::{Twins, twin};
 pub use lab_desk_events::Event;
-pub use lab_desk_foundings::{FoundFault, RunFault, ServeFault};
+pub use lab_desk_foundings::{FoundFault, RunFault, ServeFault, founding_of};
 pub use lab_forms_texts::{Fault, LabCode, Moment, OutOfMemory, RefusalKind, Series, Tick};
 pub use lab_records_copy_out::{
     CopyOutFault, Progress, RecordGiver, Unheard, WholeRecords, copy_out,
 };
 pub use lab_records_keeper::{BadStore, Keeper, KeeperFault, PlacingFault};
-pub use lab_records_machine::BirthRefusal;
+pub use lab_records_machine::{BirthRefusal, Founder, Founding};
 pub use lab_records_memory::Lists;
 pub use lab_wire_members::BodyRefusal;
 pub use twin_runs::equal_events_get_equal_answers;

@@ -11,7 +11,7 @@ use Rattle.lab_records_keeper.specs.Faults.{placing_fault_entry}
 use Rattle.lab_records_machine.specs.Births.{birth_entry}
 use Rattle.lab_desk_foundings.specs.declared.faults.FoundFault.{FoundFault}
 use Rattle.lab_desk_foundings.specs.declared.faults.FoundFault.TheVariants.{Body as OfBody, Birth as OfBirth, Placing}
-use Rattle.lab_desk_foundings.specs.Foundings.{Body, Bears, BearsNone}
+use Rattle.lab_desk_foundings.specs.Foundings.{Body, Bears, BearsNever, BearsNone}
 
 -- the number and the word of a founding's fault
 abbrev pub found_fault_entry : FoundFault → Entry
@@ -31,6 +31,13 @@ is_taken (OfBirth refusal) = true
 is_taken (Placing LabExists) = true
 is_taken (Placing Storage) = false
 is_taken (Placing NoMemory) = false
+
+-- which fault the reading of a founding's body may give: first the body's refusal; where the body
+-- reads, why no laboratory is born from it, whichever there are; or that memory ran out
+abbrev pub FoundingFaultFits : Body → FoundFault → Type 0
+FoundingFaultFits body (OfBody refusal) = body ≡ Err refusal
+FoundingFaultFits body (OfBirth refusal) = BearsNever body refusal
+FoundingFaultFits body (Placing fault) = fault ≡ NoMemory
 
 -- which fault a founding may give: first the body's refusal; where the body reads, why no
 -- laboratory is born from it; where one is, that it was there already, or that the store refused

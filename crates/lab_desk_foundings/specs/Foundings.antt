@@ -13,7 +13,7 @@ use Rattle.lab_records_keeper.specs.Faults.{storage_entry}
 use Rattle.lab_records_keeper.specs.Worlds.{World, Meaning, SetsOne, Places, Lives, Leaves}
 use Rattle.lab_records_machine.specs.declared.births.Founding.{Founding}
 use Rattle.lab_records_machine.specs.declared.births.BirthRefusal.{BirthRefusal}
-use Rattle.lab_records_machine.specs.Births.{birth_entry, born, newborn}
+use Rattle.lab_records_machine.specs.Births.{birth_entry, born, founding_refusal, newborn}
 use Rattle.lab_desk_foundings.specs.declared.foundings.TheConstants.{BODY_LIMIT}
 
 -- what a founding's body says, or why it says nothing
@@ -38,6 +38,16 @@ Bears code tick (Ok founding) = IsOk (born None code tick founding)
 abbrev pub BearsNone : List ℕ → Tick → Body → BirthRefusal → Type 0
 BearsNone code tick (Err refusal) reason = ⊥
 BearsNone code tick (Ok founding) reason = born None code tick founding ≡ Err reason
+
+-- a body that reads, from which none is born, whichever there are, and why
+abbrev pub BearsNever : Body → BirthRefusal → Type 0
+BearsNever (Err refusal) reason = ⊥
+BearsNever (Ok founding) reason = founding_refusal founding ≡ Some reason
+
+-- the founding that a body names, where it isn't refused
+pub record IsFounding (body : Body) (founding : Founding) : Type 0 where
+  pub read : body ≡ Ok founding
+  pub admitted : founding_refusal founding ≡ None
 
 -- the laboratory that is born from a body that reads, where there is none of the code
 pub record IsNewborn (code : List ℕ) (tick : Tick) (body : Body) (lab : Lab) : Type 0 where

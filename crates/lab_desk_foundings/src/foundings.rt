@@ -6,41 +6,53 @@ ghost use Rattle.lab_wire_bodies.specs.Bodies.{body_named};
 ghost use Rattle.lab_wire_bodies.specs.Foundings.{founding_named};
 ghost use Rattle.lab_records_keeper.specs.declared.faults.PlacingFault.TheVariants.{Memory};
 ghost use Rattle.lab_desk_foundings.specs.declared.faults.FoundFault.TheVariants.{Placing};
-ghost use Rattle.lab_desk_foundings.specs.Faults.{found_fault_entry, is_taken, FoundFaultFits};
-ghost use Rattle.lab_desk_foundings.specs.Foundings.{IsNewborn, founding_in, founded_line, refused_line, memory_line, shown};
+ghost use Rattle.lab_desk_foundings.specs.Faults.{found_fault_entry, is_taken, FoundFaultFits, FoundingFaultFits};
+ghost use Rattle.lab_desk_foundings.specs.Foundings.{IsFounding, IsNewborn, founding_in, founded_line, refused_line, memory_line, shown};
 
 use crate::faults::FoundFault;
 use lab_forms_texts::{LabCode, OutOfMemory, Tick};
 use lab_records_kept::Newborn;
-use lab_records_machine::bear;
-use lab_wire_bodies::founding_of;
+use lab_records_machine::{Founding, bear};
+use lab_wire_bodies::founding_of as founding_named;
 use lab_wire_members::BodyRefusal;
 use std::alloc::Global;
 
 /// The most bytes of a founding's body.
 pub const BODY_LIMIT: usize = 1_000_000;
 
-// Reads a body within the limit, and returns what a keeper needs to found the laboratory.
-fn newborn_within(
-    alloc: Global,
-    lab: &LabCode,
-    tick: &Tick,
-    body: &[u8],
-) -> Result<Newborn, FoundFault>
-    ensures born { IfOk result (λ newborn. IsNewborn lab.now tick.now
-        (body_named founding_named body.now) (newborn_lab newborn)) }
-    ensures fault { IfErr result
-        (FoundFaultFits ⊥ ⊥ lab.now tick.now (body_named founding_named body.now)) }
+// Reads the founding in a body within the limit.
+fn founding_within(alloc: Global, body: &[u8]) -> Result<Founding, FoundFault>
+    ensures read { IfOk result (IsFounding (body_named founding_named body.now)) }
+    ensures fault { IfErr result (FoundingFaultFits (body_named founding_named body.now)) }
     ensures memory { IfErr result (λ fault. fault ≡ Placing Memory → 0 < length body.now) }
 {
-    match founding_of(alloc, body) {
-        Ok(founding) => Ok(bear(lab.copy()?, founding, tick)?),
-        Err(fault) => Err(FoundFault::from(fault)),
+    let founding = founding_named(alloc, body)?;
+    match founding.refusal() {
+        Some(refusal) => Err(FoundFault::Birth(refusal)),
+        None => Ok(founding),
     }
 }
 
+/// Reads the founding that a body names. A body over the limit isn't read.
+///
+/// # Errors
+/// - the body isn't that of a founding, or a code or a name in it isn't allowed;
+/// - otherwise two founders have one code;
+/// - otherwise a password has fewer than 12 or more than 128 bytes;
+/// - memory ran out, for any body except an empty one.
+pub fn founding_of(alloc: Global, body: &[u8]) -> Result<Founding, FoundFault>
+    ensures read { IfOk result (IsFounding (founding_in body.now)) }
+    ensures fault { IfErr result (FoundingFaultFits (founding_in body.now)) }
+    // An empty body is refused, which needs no memory:
+    ensures memory { IfErr result (λ fault. fault ≡ Placing Memory → 0 < length body.now) }
+{
+    if body.len() > BODY_LIMIT {
+        return Err(FoundFault::Body(BodyRefusal::BadBody));
+    }
+    founding_within(alloc, body)
+}
+
 /// Reads a founding's body, and returns what a keeper needs to found the laboratory with the code.
-/// A body over the limit isn't read.
 ///
 /// # Errors
 /// The founding is refused, the store failed, or memory ran out.
@@ -58,10 +70,10 @@ pub fn newborn_of(
     // An empty body is refused, which needs no memory:
     ensures memory { IfErr result (λ fault. fault ≡ Placing Memory → 0 < length body.now) }
 {
-    if body.len() > BODY_LIMIT {
-        return Err(FoundFault::Body(BodyRefusal::BadBody));
+    match founding_of(alloc, body) {
+        Ok(founding) => Ok(bear(lab.copy()?, founding, tick)),
+        Err(fault) => Err(fault),
     }
-    newborn_within(alloc, lab, tick, body)
 }
 
 /// Returns the line that reports a founding.

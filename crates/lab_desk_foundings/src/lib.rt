@@ -7,5 +7,7 @@ mod foundings;
 mod run_faults;
 
 pub use faults::FoundFault;
-pub use foundings::{BODY_LIMIT, FoundingLine, founded_line, line_of_fault, newborn_of};
+pub use foundings::{
+    BODY_LIMIT, FoundingLine, founded_line, founding_of, line_of_fault, newborn_of,
+};
 pub use run_faults::{RunFault, ServeFault};

@@ -63,8 +63,8 @@ impl<T: Drop> From<AllocFailed<T>> for OutOfMemory {
     }
 }
 
-/// The rule of the name doesn't admit the text.
-#[derive(Clone, Copy, Debug, PartialEq, Eq)]
+/// The rule of the name doesn't admit the text. The refusal is printed as its word.
+#[derive(Clone, Copy, Debug, PartialEq, Eq, Error)]
 pub struct BadName;
 
 impl RefusalKind for BadName {
@@ -74,6 +74,17 @@ impl RefusalKind for BadName {
 
     fn entry(&self) -> (u32, &'static str) {
         (1, "bad_name")
+    }
+}
+
+impl fmt::Display for BadName {
+    ghost use Rattle.std.specs.Prelude.{Some};
+    ghost use Rattle.lab_forms_texts.specs.Faults.{name_entry};
+
+    ghost output = { λ _. Some name_entry.word };
+
+    fn fmt<W: fmt::Write>(&self, f: &mut fmt::Formatter<W>) -> fmt::Result {
+        f.write_str(self.word())
     }
 }
 

@@ -4,8 +4,8 @@ ghost use Rattle.lab_forms_texts.specs.Faults.{Entry, fault_entry};
 
 use crate::OutOfMemory;
 use std::alloc::{AllocError, AllocFailed};
-use std::error::Error;
 use std::fmt;
+use thiserror::Error;
 
 /// A kind of refusal. Each refusal has a number and a word, which the interface shows.
 pub trait RefusalKind {
@@ -33,7 +33,7 @@ pub trait RefusalKind {
 }
 
 /// Why nothing was made. Its text is its word.
-#[derive(Clone, Copy, Debug, PartialEq, Eq, Drop)]
+#[derive(Clone, Copy, Debug, PartialEq, Eq, Drop, Error)]
 pub enum Fault<R> {
     /// The input was refused.
     Refused(R),
@@ -73,8 +73,6 @@ impl<R: RefusalKind> fmt::Display for Fault<R> {
         f.write_str(self.word())
     }
 }
-
-impl<R: RefusalKind + fmt::Debug + Drop> Error for Fault<R> {}
 
 impl<R> From<OutOfMemory> for Fault<R> {
     ghost use Rattle.lab_forms_texts.specs.declared.refusals.Fault.TheVariants.{Memory};

@@ -60,6 +60,12 @@ stop_word Read = read_fault_word
 stop_word Write = write_fault_word
 stop_word Memory = memory_entry.word
 
+-- its number, where it has one
+abbrev pub stop_number : StopFault → Option ℕ
+stop_number Read = None
+stop_number Write = None
+stop_number Memory = Some memory_entry.number
+
 abbrev pub stop_line : StopFault → List ℕ
 stop_line fault = codes "labdesk: " ++ stop_word fault ++ codes "\n"
 

@@ -1,6 +1,6 @@
 //! Why a check stopped before it could print what it found.
 ghost use Rattle.std.specs.Prelude.{◌≡◌};
-ghost use Rattle.lab_program_check.specs.Verdicts.{stop_word, stop_line};
+ghost use Rattle.lab_program_check.specs.Verdicts.{stop_number, stop_word, stop_line};
 
 use lab_copy::OutOfMemory;
 use std::fmt;
@@ -29,6 +29,16 @@ impl From<OutOfMemory> for StopFault {
 }
 
 impl StopFault {
+    /// Returns the number of the fault: 90 if memory ran out, `None` for the others.
+    pub fn number(&self) -> Option<u32>
+        ensures { result ≡ stop_number self.now }
+    {
+        match self {
+            StopFault::Read | StopFault::Write => None,
+            StopFault::Memory => OutOfMemory.number(),
+        }
+    }
+
     /// Returns the word of the fault.
     pub fn word(&self) -> &'static str
         ensures { result.now ≡ stop_word self.now }

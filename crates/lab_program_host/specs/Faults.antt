@@ -56,6 +56,11 @@ abbrev pub rehearsal_fault_word : RehearsalFault → List ℕ
 rehearsal_fault_word (Founding fault) = (found_fault_entry fault).word
 rehearsal_fault_word (Server fault) = server_fault_word fault
 
+-- its number, where it has one
+abbrev pub rehearsal_fault_number : RehearsalFault → Option ℕ
+rehearsal_fault_number (Founding fault) = Some (found_fault_entry fault).number
+rehearsal_fault_number (Server fault) = server_fault_number fault
+
 -- ---- what standard error is told
 
 -- the line that tells a word

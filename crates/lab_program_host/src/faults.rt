@@ -2,7 +2,7 @@
 
 ghost use Rattle.std.specs.Prelude.{◌≡◌, None};
 ghost use Rattle.lab_forms_streams.specs.Sending.{read_fault_word};
-ghost use Rattle.lab_program_host.specs.Faults.{server_fault_number, server_fault_word, connection_fault_number, connection_fault_word, rehearsal_fault_word};
+ghost use Rattle.lab_program_host.specs.Faults.{server_fault_number, server_fault_word, connection_fault_number, connection_fault_word, rehearsal_fault_number, rehearsal_fault_word};
 
 use crate::drawing::DrawFault;
 use lab_desk_foundings::{FoundFault, ServeFault};
@@ -232,6 +232,16 @@ pub enum RehearsalFault {
 }
 
 impl RehearsalFault {
+    /// Returns the number of the fault: that of the founding's refusal, or of the server's fault.
+    pub fn number(&self) -> Option<u32>
+        ensures { result ≡ rehearsal_fault_number self.now }
+    {
+        match self {
+            RehearsalFault::Founding(fault) => fault.number(),
+            RehearsalFault::Server(fault) => fault.number(),
+        }
+    }
+
     /// Returns the word of the fault.
     pub fn word(&self) -> &'static str
         ensures { result.now ≡ rehearsal_fault_word self.now }

@@ -15,6 +15,11 @@ abbrev pub open_fault_word : OpenFault → List ℕ
 open_fault_word (File fault) = (file_fault_entry fault).word
 open_fault_word Drawing = read_fault_word
 
+-- its number, where it has one
+abbrev pub open_fault_number : OpenFault → Option ℕ
+open_fault_number (File fault) = Some (file_fault_entry fault).number
+open_fault_number Drawing = None
+
 -- its value: the number of a file's schema that is another one
 abbrev pub open_fault_value : OpenFault → Option ℕ
 open_fault_value (File fault) = file_fault_value fault

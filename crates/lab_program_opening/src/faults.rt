@@ -1,7 +1,7 @@
 //! Why no task was begun over a file, and why a founding that was begun failed.
 
 ghost use Rattle.std.specs.Prelude.{◌≡◌};
-ghost use Rattle.lab_program_opening.specs.Faults.{open_fault_value, open_fault_word};
+ghost use Rattle.lab_program_opening.specs.Faults.{open_fault_number, open_fault_value, open_fault_word};
 
 use lab_forms_texts::OutOfMemory;
 use lab_program_host::{RehearsalFault, ServerFault};
@@ -22,6 +22,17 @@ pub enum OpenFault {
 }
 
 impl OpenFault {
+    /// Returns the number of the fault: that of the file's fault, `None` if the clock or the source
+    /// of random words failed.
+    pub fn number(&self) -> Option<u32>
+        ensures { result ≡ open_fault_number self.now }
+    {
+        match self {
+            OpenFault::File(fault) => fault.number(),
+            OpenFault::Drawing => ServerFault::Read.number(),
+        }
+    }
+
     /// Returns the word of the fault.
     pub fn word(&self) -> &'static str
         ensures { result.now ≡ open_fault_word self.now }

@@ -1,5 +1,5 @@
 -- The words by which the program tells on standard error why it stopped.
-use Rattle.std.specs.Prelude.{List, ℕ, codes, ◌++◌}
+use Rattle.std.specs.Prelude.{List, ℕ, Option, Some, None, codes, ◌++◌}
 use Rattle.lab_desk_foundings.specs.declared.run_faults.RunFault.{RunFault}
 use Rattle.lab_desk_foundings.specs.declared.run_faults.RunFault.TheVariants.{Memory as RunMemory, Write}
 use Rattle.lab_records_keeper.specs.Faults.{storage_entry}
@@ -18,6 +18,14 @@ fault_word ReadFault = read_fault_word
 fault_word WriteFault = write_fault_word
 fault_word Storage = storage_entry.word
 fault_word Memory = memory_entry.word
+
+-- its number, where it has one
+abbrev pub fault_number : ReplayFault → Option ℕ
+fault_number BadEvent = None
+fault_number ReadFault = None
+fault_number WriteFault = None
+fault_number Storage = Some storage_entry.number
+fault_number Memory = Some memory_entry.number
 
 -- the line that tells it
 abbrev pub fault_line : ReplayFault → List ℕ

@@ -2,7 +2,8 @@
 ghost use Rattle.std.specs.Prelude.{◌≡◌};
 
 use lab_desk::RunFault;
-use lab_forms_texts::{NameFault, OutOfMemory};
+use lab_forms_texts::{NameFault, OutOfMemory, RefusalKind};
+use lab_records_keeper::BadStore;
 use std::alloc::AllocError;
 use std::{fmt, io};
 use thiserror::Error;
@@ -23,7 +24,19 @@ pub enum ReplayFault {
 }
 
 impl ReplayFault {
-    ghost use Rattle.lab_program_replay.specs.Fault.{fault_word, fault_line};
+    ghost use Rattle.lab_program_replay.specs.Fault.{fault_number, fault_word, fault_line};
+
+    /// Returns the number of the fault: 63 if the laboratories could not be kept, 90 if memory ran
+    /// out, `None` for the others.
+    pub fn number(&self) -> Option<u32>
+        ensures { result ≡ fault_number self.now }
+    {
+        match self {
+            ReplayFault::BadEvent | ReplayFault::ReadFault | ReplayFault::WriteFault => None,
+            ReplayFault::Storage => BadStore.number(),
+            ReplayFault::Memory => OutOfMemory.number(),
+        }
+    }
 
     /// Returns the word of the fault.
     pub fn word(&self) -> &'static str

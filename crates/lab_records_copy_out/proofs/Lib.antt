@@ -5,6 +5,7 @@ pub mod OutLemmas
 pub mod HeadLemmas
 pub mod FaultLemmas
 pub mod ReadLemmas
+pub mod RangeLemmas
 pub mod LimitLemmas
 pub mod EachLemmas
 pub mod LegibleLemmas

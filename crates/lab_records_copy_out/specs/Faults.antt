@@ -6,7 +6,8 @@ use Rattle.lab_forms_texts.specs.declared.refusals.Fault.TheVariants.{Refused, M
 use Rattle.lab_records_keeper.specs.declared.faults.BadStore.{BadStore}
 use Rattle.lab_records_keeper.specs.Faults.{storage_entry}
 use Rattle.lab_records_kept.specs.Faults.{no_such_lab_entry}
-use Rattle.lab_copy_rows.specs.declared.faults.WriteFailure.{WriteFailure}
+use Rattle.lab_copy_rows.specs.declared.faults.CopyOutFault.{CopyOutFault as RowFault}
+use Rattle.lab_copy_rows.specs.declared.faults.CopyOutFault.TheVariants.{Write as NotWritten, Memory as NoRoom}
 use Rattle.lab_records_copy_out.specs.declared.faults.CopyOutFault.{CopyOutFault}
 use Rattle.lab_records_copy_out.specs.declared.faults.CopyOutFault.TheVariants.{NoSuchLab, Storage, Memory, Write}
 
@@ -29,9 +30,9 @@ abbrev pub keeper_told : Fault BadStore → CopyOutFault
 keeper_told (Refused _) = Storage
 keeper_told NoMemory = Memory
 
-abbrev pub row_told : Fault WriteFailure → CopyOutFault
-row_told (Refused _) = Write
-row_told NoMemory = Memory
+abbrev pub row_told : RowFault → CopyOutFault
+row_told NotWritten = Write
+row_told NoRoom = Memory
 
 -- that there is no laboratory is told only where there is none; the keeper's store is blamed only
 -- where it may refuse, and the writer only where there is a copy to be written

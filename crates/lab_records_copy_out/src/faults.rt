@@ -84,7 +84,7 @@ impl From<RowFault> for CopyOutFault {
 
     fn from(fault: RowFault) -> CopyOutFault {
         match fault {
-            RowFault::Refused(_) => CopyOutFault::Write,
+            RowFault::Write => CopyOutFault::Write,
             RowFault::Memory => CopyOutFault::Memory,
         }
     }

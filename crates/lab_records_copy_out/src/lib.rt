@@ -9,6 +9,7 @@ mod givers;
 mod laws;
 mod legible;
 mod progress;
+mod ranges;
 mod reads;
 mod wholes;
 
@@ -20,3 +21,4 @@ pub use lab_records_kept::{LabCode, Moment, Ordinal};
 pub use laws::{a_laboratory_can_be_walked, a_legible_laboratory_gives_sound_copies};
 pub use legible::{changes_are_legible, lab_is_legible, newborn_is_legible, order_is_legible};
 pub use progress::{Progress, Unheard};
+pub use ranges::copy_rows;

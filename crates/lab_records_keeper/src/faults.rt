@@ -10,8 +10,8 @@ use std::alloc::{AllocError, AllocFailed};
 use std::fmt;
 use thiserror::Error;
 
-/// The store failed.
-#[derive(Clone, Copy, Debug, PartialEq, Eq)]
+/// The store failed. The refusal is printed as its word.
+#[derive(Clone, Copy, Debug, PartialEq, Eq, Error)]
 pub struct BadStore;
 
 impl RefusalKind for BadStore {
@@ -21,6 +21,17 @@ impl RefusalKind for BadStore {
 
     fn entry(&self) -> (u32, &'static str) {
         (63, "storage")
+    }
+}
+
+impl fmt::Display for BadStore {
+    ghost use Rattle.std.specs.Prelude.{Some};
+    ghost use Rattle.lab_records_keeper.specs.Faults.{storage_entry};
+
+    ghost output = { λ _. Some storage_entry.word };
+
+    fn fmt<W: fmt::Write>(&self, f: &mut fmt::Formatter<W>) -> fmt::Result {
+        f.write_str(self.word())
     }
 }
 

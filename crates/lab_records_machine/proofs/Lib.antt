@@ -1,1 +1,2 @@
+pub mod BirthLemmas
 pub mod KnownValues

@@ -41,6 +41,12 @@ are_passwords founding =
     is_password founding.first.password && is_password founding.second.password
     && is_password founding.third.password
 
+-- why no laboratory is born from a founding, whichever laboratories there are
+abbrev pub founding_refusal : Founding → Option BirthRefusal
+founding_refusal founding =
+    if is_code_shared founding then Some CodeTaken
+    else (if not (are_passwords founding) then Some BadPassword else None)
+
 -- a founder, as an administrator whose password was chosen at the moment
 abbrev pub founder_person : Founder → List ℕ → ℕ → Person
 founder_person founder salt moment =

@@ -1,14 +1,16 @@
 //! What a founding brings to a laboratory, why a founding is refused, and the data of which a
 //! keeper founds a laboratory.
-ghost use Rattle.std.specs.Prelude.{◌≡◌, Some, None, Ok, Err, bytes_eq, IfOk, IfErr};
+ghost use Rattle.std.specs.Prelude.{◌≡◌, Some, None, Ok, bytes_eq};
 ghost use Rattle.lab_records_kept.specs.Births.{newborn_lab};
-ghost use Rattle.lab_records_machine.specs.Births.{birth_entry, is_code_shared, are_passwords, founder_person, newborn, born};
+ghost use Rattle.lab_records_machine.specs.Births.{birth_entry, is_code_shared, are_passwords, founding_refusal, founder_person, born};
 
 use lab_forms_texts::{LabCode, Moment, Name, PersonCode, RefusalKind, Tick};
 use lab_people_access::{Password, Person, Role, Roles};
 use lab_records_kept::Newborn;
 use lab_records_rules::Typed;
 use lab_seal_hashes::founder_salts;
+use std::fmt;
+use thiserror::Error;
 
 /// One of the persons who found a laboratory, and who become its administrators.
 #[derive(Drop)]
@@ -34,8 +36,8 @@ pub struct Founding {
     pub third: Founder,
 }
 
-/// Why a laboratory isn't founded.
-#[derive(Clone, Copy, Debug, PartialEq, Eq)]
+/// Why a laboratory isn't founded. A refusal is printed as its word.
+#[derive(Clone, Copy, Debug, PartialEq, Eq, Error)]
 pub enum BirthRefusal {
     /// Two founders have the same code.
     CodeTaken,
@@ -57,7 +59,32 @@ impl RefusalKind for BirthRefusal {
     }
 }
 
+impl fmt::Display for BirthRefusal {
+    ghost use Rattle.std.specs.Prelude.{Some};
+    ghost use Rattle.lab_records_machine.specs.Births.{birth_entry};
+
+    ghost output = { λ refusal. Some (birth_entry refusal).word };
+
+    fn fmt<W: fmt::Write>(&self, f: &mut fmt::Formatter<W>) -> fmt::Result {
+        f.write_str(self.word())
+    }
+}
+
 impl Founding {
+    /// Returns why no laboratory can be founded so, whichever laboratories there are; `None` if one
+    /// can be. A code that two founders share comes before a password.
+    pub fn refusal(&self) -> Option<BirthRefusal>
+        ensures { result ≡ founding_refusal self.now }
+    {
+        if self.is_code_shared() {
+            return Some(BirthRefusal::CodeTaken);
+        }
+        if !self.are_passwords() {
+            return Some(BirthRefusal::BadPassword);
+        }
+        None
+    }
+
     // Whether two of the founders have the same code.
     fn is_code_shared(&self) -> bool
         ensures { result ≡ is_code_shared self.now }
@@ -97,28 +124,12 @@ fn is_same(one: &PersonCode, other: &PersonCode) -> bool
 }
 
 /// Returns the data of which a keeper founds the laboratory with the code, if no laboratory has
-/// that code; or why it isn't founded. Whether the code is already taken is tested last, and by the
-/// keeper.
-///
-/// # Errors
-/// The reason why no laboratory is founded.
-pub fn bear(code: LabCode, founding: Founding, tick: &Tick) -> Result<Newborn, BirthRefusal>
-    ensures ok { IfOk result (λ newborn.
-        born None code tick.now founding ≡ Ok (newborn_lab newborn)) }
-    ensures err { IfErr result (λ refusal. born None code tick.now founding ≡ Err refusal) }
-{
-    if founding.is_code_shared() {
-        return Err(BirthRefusal::CodeTaken);
-    }
-    if !founding.are_passwords() {
-        return Err(BirthRefusal::BadPassword);
-    }
-    Ok(newborn(code, founding, tick))
-}
-
-// The laboratory with its three administrators. Each administrator has a salt of their own.
-fn newborn(code: LabCode, founding: Founding, tick: &Tick) -> Newborn
-    ensures { newborn_lab result ≡ newborn code tick.now founding }
+/// that code, which the keeper tests. Each of the three administrators has a salt of their own. The
+/// founding isn't refused.
+#[tactic(auto, using(crate::proofs::BirthLemmas::born_unrefused))]
+pub fn bear(code: LabCode, founding: Founding, tick: &Tick) -> Newborn
+    requires { founding_refusal founding ≡ None }
+    ensures { born None code tick.now founding ≡ Ok (newborn_lab result) }
 {
     let Founding {
         name,

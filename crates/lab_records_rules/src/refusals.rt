@@ -5,9 +5,12 @@ use lab_forms::FormRefusal;
 use lab_forms_texts::{Key, Ordinal, RefusalKind};
 use lab_people_access::PeopleRefusal;
 use lab_seal_hashes::Digest;
+use std::fmt;
+use thiserror::Error;
 
-/// What the machine of a laboratory refuses, with what the refusal states.
-#[derive(Debug)]
+/// What the machine of a laboratory refuses, with what the refusal states. A refusal is printed as
+/// its word.
+#[derive(Debug, Error)]
 pub enum Refusal {
     /// There is no such laboratory.
     NoSuchLab,
@@ -109,5 +112,16 @@ impl RefusalKind for Refusal {
             Refusal::CodeWanted => (57, "code_wanted"),
             Refusal::ApprovalNotWanted => (58, "approval_not_wanted"),
         }
+    }
+}
+
+impl fmt::Display for Refusal {
+    ghost use Rattle.std.specs.Prelude.{Some};
+    ghost use Rattle.lab_records_rules.specs.Refusals.{refusal_entry};
+
+    ghost output = { λ refusal. Some (refusal_entry refusal).word };
+
+    fn fmt<W: fmt::Write>(&self, f: &mut fmt::Formatter<W>) -> fmt::Result {
+        f.write_str(self.word())
     }
 }

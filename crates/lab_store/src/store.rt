@@ -32,6 +32,9 @@ use std::alloc::Global;
 use std::io::Write;
 use std::marker::Model;
 
+/// Why a call on a store failed: as of every keeper.
+pub type StoreFault = KeeperFault;
+
 /// The laboratories of a file, which was made by `create` or opened by `open`.
 ///
 /// The id of the laboratory's row that was read last, and the number of its persons, are kept until

@@ -5,6 +5,8 @@
 #![tactic(auto)]
 
 #[cfg(test)]
+mod body_tests;
+#[cfg(test)]
 mod create_tests;
 #[cfg(test)]
 mod databases;
@@ -14,6 +16,7 @@ mod founding_tests;
 mod made;
 #[cfg(test)]
 mod moody;
+mod names;
 #[cfg(test)]
 mod refused_request_tests;
 #[cfg(test)]

@@ -1,9 +1,21 @@
-//! The body of a founding, requests, and all that goes out for one of them, by docs/HTTP.md.
+//! Bodies of foundings, requests, and all that goes out for one of them, by docs/HTTP.md.
 
 pub(crate) const BODY: &[u8] =
     b"{\"founders\":[{\"code\":\"ann\",\"name\":\"N\",\"password\":\"twelve bytes\"},\
     {\"code\":\"bob\",\"name\":\"N\",\"password\":\"twelve bytes\"},\
     {\"code\":\"cid\",\"name\":\"N\",\"password\":\"twelve bytes\"}],\"name\":\"Aqua Lab\"}";
+
+/// Two founders have one code, and one has a password of eleven bytes.
+pub(crate) const TWICE: &[u8] =
+    b"{\"founders\":[{\"code\":\"ann\",\"name\":\"N\",\"password\":\"eleven byte\"},\
+    {\"code\":\"bob\",\"name\":\"N\",\"password\":\"twelve bytes\"},\
+    {\"code\":\"ann\",\"name\":\"N\",\"password\":\"twelve bytes\"}],\"name\":\"Aqua Lab\"}";
+
+/// The third founder has a password of eleven bytes.
+pub(crate) const SHORT: &[u8] =
+    b"{\"founders\":[{\"code\":\"ann\",\"name\":\"N\",\"password\":\"twelve bytes\"},\
+    {\"code\":\"bob\",\"name\":\"N\",\"password\":\"twelve bytes\"},\
+    {\"code\":\"cid\",\"name\":\"N\",\"password\":\"eleven byte\"}],\"name\":\"Aqua Lab\"}";
 
 pub(crate) const CARD: &[u8] = b"GET /labs/aqua HTTP/1.1\r\nHost: d\r\n\r\n";
 

@@ -1,12 +1,9 @@
--- A longer body is no body, and any other says what its JSON names.
-use Rattle.lab_desk_foundings.proofs.Bodies.{said_past, said_within}
+-- A fault is that of the reading; and a body that reads has some byte.
+use Rattle.lab_desk_foundings.proofs.Bodies.{byte_read, found_fits}
 use Rattle.lab_desk_foundings.proofs.foundings.newborn_of.Goals as goal
 
-pub returns-then-body-gt-BODY_LIMIT-clause-fault : goal.returns-then-body-gt-BODY_LIMIT-clause-fault
-returns-then-body-gt-BODY_LIMIT-clause-fault c = said_past c.args.body.now c.if-body-gt-BODY_LIMIT.true
+pub returns-in_err-copy-in-Ok-clause-memory : goal.returns-in_err-copy-in-Ok-clause-memory
+returns-in_err-copy-in-Ok-clause-memory c = byte_read c.args.body.now c.in-Ok.founding c.from_residual.result c.in-Ok.ensures.read.read
 
-pub returns-clause-born : goal.returns-clause-born
-returns-clause-born c = rw (said_within c.args.body.now c.if-body-gt-BODY_LIMIT.false) c.newborn_within.ensures.born
-
-pub returns-clause-fault : goal.returns-clause-fault
-returns-clause-fault c = rw (said_within c.args.body.now c.if-body-gt-BODY_LIMIT.false) c.newborn_within.ensures.fault
+pub returns-in-Err-clause-fault : goal.returns-in-Err-clause-fault
+returns-in-Err-clause-fault c = found_fits c.args.lab.now c.args.tick.now _ c.in-Err.fault c.in-Err.ensures.fault

@@ -1,0 +1,56 @@
+//! What the body of a founding says, and the rows of the records of a desk without any.
+use crate::made::{code, empty_desk, tick};
+use crate::texts::{BODY, SHORT, TWICE};
+use lab_desk::{Desk, FoundFault, Founding, Lists, founding_of};
+use lab_store::{CopyRow, Ordinal, StoreFault, copy_rows};
+use std::process::Abort;
+
+fn read<R: Abort + AllocGlobal>(rt: &R, body: &[u8]) -> Result<Founding, FoundFault> {
+    founding_of(rt.alloc(), body)
+}
+
+// The number and the word by which a body is refused.
+fn refusal<R: Abort + AllocGlobal>(rt: &R, body: &[u8]) -> (Option<u32>, &'static str) {
+    let fault = read(rt, body).err().expect(rt, "a fault");
+    (fault.number(), fault.word())
+}
+
+// A code that two founders share comes before a password that is too short.
+#[test]
+fn a_body_is_refused_by_its_founders(rt: HostRuntime) {
+    assert_eq!(rt; refusal(&rt, b""), (Some(88), "bad_body"));
+    assert_eq!(rt; refusal(&rt, TWICE), (Some(27), "code_taken"));
+    assert_eq!(rt; refusal(&rt, SHORT), (Some(25), "bad_password"));
+    let founding = read(&rt, BODY).expect(&rt, "a founding");
+    assert_eq!(rt; founding.name.as_str(), "Aqua Lab");
+    drop(founding);
+}
+
+// The rows of all records, without clauses, so that the proof of the test doesn't carry them.
+fn rows<R: Abort + AllocGlobal>(
+    rt: &R,
+    lists: &mut Lists,
+    lab: &str,
+) -> Result<Option<Vec<CopyRow>>, StoreFault> {
+    let code = code(rt, lab);
+    copy_rows(rt.alloc(), lists, &code, Ordinal::FIRST, Ordinal::FIRST)
+}
+
+fn desk_with_aqua<R: Abort + AllocGlobal>(rt: &R) -> Desk<Lists> {
+    let mut desk = empty_desk(rt);
+    let code = code(rt, "aqua");
+    let found = desk.found(&code, &tick(rt, 50, 1), BODY);
+    drop(code);
+    assert_eq!(rt; found, Ok(()));
+    desk
+}
+
+#[test]
+fn a_laboratory_without_records_has_no_rows(rt: HostRuntime) {
+    let mut lists = desk_with_aqua(&rt).into_keeper();
+    let found = rows(&rt, &mut lists, "aqua").expect(&rt, "an answer");
+    assert!(rt; found.is_some_and(|rows| rows.is_empty()));
+    let none = rows(&rt, &mut lists, "brick").expect(&rt, "an answer");
+    assert!(rt; none.is_none());
+    drop(lists);
+}
