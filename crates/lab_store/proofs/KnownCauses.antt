@@ -1,5 +1,5 @@
 -- Small instances of the definition: calls that tell of the store for a cause, and one that has none for it.
-use Rattle.std.proofs.Common.{◌≡◌, inl, inr, ℕ, ◌-◌, ◌<◌, ◌^◌, true, false, List, [], ◌∷◌, None, Err, refl, sym, subst, arith}
+use Rattle.std.proofs.Common.{◌≡◌, inl, inr, ℕ, pos, ◌-◌, ◌<◌, ◌^◌, true, false, List, [], ◌∷◌, None, Err, refl, sym, subst, arith}
 use Rattle.std.specs.Prelude.{IsTrue, codes}
 use Rattle.sqlite_trees.specs.declared.store.Store.{Ghosts}
 use Rattle.sqlite.specs.declared.error.Error.TheVariants.{QueryReturnedNoRows}
@@ -10,10 +10,11 @@ use Rattle.lab_records_kept.specs.declared.changes.Change.TheVariants.{Last, Str
 use Rattle.lab_store_tables.specs.Rows.{Tables}
 use Rattle.lab_store_tables.specs.Ready.{IsReady, tables_of}
 use Rattle.lab_store_tables.proofs.KnownFile.{file}
-use Rattle.lab_store_write.specs.Causes.{RunsInside, IsNamedInVain}
+use Rattle.lab_store_write.specs.Causes.{Statement, RunsInside, IsNamedInVain}
+use Rattle.lab_store_write.specs.Statements.{setting_last}
 use Rattle.lab_store_write.proofs.Transactions.{unchanged}
 use Rattle.lab_store_write_changes.specs.Causes.{IsTooMuch}
-use Rattle.lab_store.specs.Causes.{CommitHasItsCause, FailsInside, RefusesChanges}
+use Rattle.lab_store.specs.Causes.{CommitHasItsCause, FailsInside, RefusesChanges, TriesOf}
 
 module _ {S : Type 0} (g : Ghosts S) where
   -- a connection that was shut is told of
@@ -22,15 +23,15 @@ module _ {S : Type 0} (g : Ghosts S) where
   known_shut IsTold Readable Refused held fault shut = record { limit = refl; cause = λ ready clean readable told. inl (inr (inl shut)) }
 
   -- so is a statement that sets no row where one is named, behind others of a transaction that is then undone
-  pub known_vain : (old last end new : Held S) → IsTrue (state g old).is_open → Survives (state g (record old { in_transaction = true })) (state g last) (λ _. ⊥) → RunsInside (state g last) (state g end)
-      → IsNamedInVain (state g last) (state g end) QueryReturnedNoRows → Survives (state g end) (state g new) (λ _. ⊥) → IsRolledBack (state g end) (state g new) → FailsInside g old new
-  known_vain old last end new opened led goes vain ended undone = record {
+  pub known_vain : (tried : Statement) (old last end new : Held S) → IsTrue (state g old).is_open → Survives (state g (record old { in_transaction = true })) (state g last) (λ _. ⊥) → RunsInside (state g last) (state g end)
+      → IsNamedInVain tried (state g last) (state g end) QueryReturnedNoRows → Survives (state g end) (state g new) (λ _. ⊥) → IsRolledBack (state g end) (state g new) → FailsInside g old new
+  known_vain tried old last end new opened led goes vain ended undone = record {
     from = old;
     as_is = unchanged (state g old) opened;
     last = end;
     error = QueryReturnedNoRows;
     told = refl;
-    ends = record { last = last; led = led; ran = goes; why = inr vain };
+    ends = record { last = last; led = led; ran = goes; tried = tried; own = tt; why = inr vain };
     ended = ended;
     undone = undone;
   }
@@ -63,3 +64,11 @@ known_there t moment is (inr it) =
     let below = it.among.1 in
     let zero : it.among.0 ≡ 0 = omega (arith, below) in
     subst IsTooMuch (sym (rw zero at it.among.2)) it.much
+
+-- of aqua's last moment its own row is set, over the rows as they were
+pub known_tried : TriesOf (codes "aqua") (Last 1600 ∷ []) file (setting_last (pos 7) 1600) file
+known_tried = (_, refl, inl (record { before = []; one = Last 1600; behind = []; whole = refl; begun = file; made = refl; next = (refl, refl) }))
+
+-- and where no laboratory has the code, nothing is tried
+pub known_none_tried : (changes : List Change) (tried : Statement) (at : Tables) → TriesOf (codes "zinc") changes file tried at → ⊥
+known_none_tried changes tried at it = let wrong = it.1 in cc

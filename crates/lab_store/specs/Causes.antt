@@ -1,8 +1,9 @@
 -- Why a call that commits tells of the store: in its transaction the last statement was refused, or
--- names a row that isn't there. Else the disk had a fault in the call, the connection was shut
+-- names a row that isn't there; where changes are made, it is one that one of them tries, over the
+-- tables that those before it made. Else the disk had a fault in the call, the connection was shut
 -- before it, or its steps have a limit; or the call is given what no store takes, which is named
 -- beside.
-use Rattle.std.specs.Prelude.{◌≡◌, ◌≢◌, ◌⊎◌, ℕ, List, [], None, Result, IfErr, IsFalse, IsTrue}
+use Rattle.std.specs.Prelude.{◌≡◌, ◌≢◌, ◌⊎◌, ℕ, List, [], find, None, Some, Result, IfErr, IsFalse, IsTrue}
 use Rattle.sqlite_trees.specs.declared.store.Store.{Ghosts}
 use Rattle.sqlite.specs.declared.error.Error.{Error}
 use Rattle.sqlite.specs.Held.{Held, state}
@@ -14,7 +15,8 @@ use Rattle.lab_records_keeper.specs.declared.faults.PlacingFault.TheVariants.{St
 use Rattle.lab_records_kept.specs.declared.births.Newborn.{Newborn}
 use Rattle.lab_records_kept.specs.declared.changes.Change.{Change}
 use Rattle.lab_records_kept.specs.declared.needs.Need.{Need}
-use Rattle.lab_store_tables.specs.Rows.{Tables}
+use Rattle.lab_store_tables.specs.Rows.{LabRow, Tables}
+use Rattle.lab_store_tables.specs.Meaning.{has_code}
 use Rattle.lab_store_tables.specs.Ready.{IsReady, tables_of}
 use Rattle.lab_store_read.specs.Causes.{HasFirst, IsCaused}
 use Rattle.lab_store_read.specs.Cells.{storage}
@@ -24,39 +26,58 @@ use Rattle.lab_store_read_records.specs.Shown.{labs_shown}
 use Rattle.lab_store_load.specs.Counts.{lab_id_of}
 use Rattle.lab_store_load.specs.Readable.{HasPart}
 use Rattle.lab_store_read_copies.specs.Causes.{HasRange}
-pub use Rattle.lab_store_write.specs.Transactions.{FailsInside}
+use Rattle.lab_store_write.specs.Causes.{Tries, Anything}
+pub use Rattle.lab_store_write.specs.Transactions.{FailsInside, FailsInsideTrying}
 use Rattle.lab_store_write_changes.specs.Causes.{OneIsTooMuch}
+use Rattle.lab_store_write_changes.specs.Tried.{TriesAll}
 use Rattle.lab_store_write_changes.specs.Newborns.{is_asked}
 
 -- a call that commits tells of the store for no other cause, or for what is refused of the tables,
 -- where what it reads of them is readable
-pub record CommitHasItsCause {S T E : Type 0} (g : Ghosts S) (IsTold : E → Type 0)
-    (Readable Refused : Tables → Type 0) (old new : Held S) (result : Result T E) : Type 0 where
+pub record CommitHasItsCauseTrying (tries : Tries) {S T E : Type 0} (g : Ghosts S)
+    (IsTold : E → Type 0) (Readable Refused : Tables → Type 0) (old new : Held S)
+    (result : Result T E) : Type 0 where
   pub limit : (state g new).step_limit ≡ (state g old).step_limit
   pub cause : IsReady (state g old) → HasCleanDisk (state g new)
       → Readable (tables_of (state g old))
       → IfErr result (λ fault. IsTold fault → IsCaused (state g old) (state g new)
-      ⊎ (Refused (tables_of (state g old)) ⊎ FailsInside g old new))
+      ⊎ (Refused (tables_of (state g old)) ⊎ FailsInsideTrying tries g old new))
+
+abbrev pub CommitHasItsCause : {S T E : Type 0} → Ghosts S → (E → Type 0) → (Tables → Type 0)
+    → (Tables → Type 0) → Held S → Held S → Result T E → Type 0
+CommitHasItsCause g IsTold Readable Refused old new result =
+    CommitHasItsCauseTrying Anything g IsTold Readable Refused old new result
 
 -- a call that reads nothing before its transaction: it returns an error, which isn't want of memory,
 -- for no other cause
+abbrev pub TransactionHasItsCauseTrying : Tries → {S T : Type 0} → Ghosts S → Type 0 → Held S
+    → Held S → Result T Error → Type 0
+TransactionHasItsCauseTrying tries g Beside old new result =
+    CommitHasItsCauseTrying tries g (λ e. IsFalse (is_out_of_memory e)) (λ t. Unit {0})
+    (λ t. Beside) old new result
+
 abbrev pub TransactionHasItsCause : {S T : Type 0} → Ghosts S → Type 0 → Held S → Held S
     → Result T Error → Type 0
 TransactionHasItsCause g Beside old new result =
-    CommitHasItsCause g (λ e. IsFalse (is_out_of_memory e)) (λ t. Unit {0}) (λ t. Beside)
-    old new result
+    TransactionHasItsCauseTrying Anything g Beside old new result
 
 -- changes are refused where no laboratory has the code, or for a number that no column holds
 abbrev pub RefusesChanges : List ℕ → List Change → Tables → Type 0
 RefusesChanges code changes t =
     ((lab_id_of t code ≡ None) × (changes ≢ [])) ⊎ OneIsTooMuch changes
 
+-- what changes of the laboratory with the code may try
+abbrev pub TriesOf : List ℕ → List Change → Tries
+TriesOf code changes old tried at =
+    (lab : LabRow) × (find (has_code code) old.labs ≡ Some lab)
+    × TriesAll lab.id changes old tried at
+
 -- changes of a laboratory, whose row is readable
 abbrev pub ChangesHaveTheirCause : {S T : Type 0} → Ghosts S → List ℕ → List Change → Held S
     → Held S → Result T (Fault BadStore) → Type 0
 ChangesHaveTheirCause g code changes old new result =
-    CommitHasItsCause g (λ fault. fault ≡ storage) (λ t. HasFirst HasLab (labs_shown t code))
-    (RefusesChanges code changes) old new result
+    CommitHasItsCauseTrying (TriesOf code changes) g (λ fault. fault ≡ storage)
+    (λ t. HasFirst HasLab (labs_shown t code)) (RefusesChanges code changes) old new result
 
 -- a founding, which is refused for founders for whom a one-time word was asked
 abbrev pub FoundingHasItsCause : {S T : Type 0} → Ghosts S → Newborn → Held S → Held S
@@ -85,7 +106,8 @@ module _ {S : Type 0} (g : Ghosts S) (old new : Held S) where
   RefusesCommit code changes = IsReady (state g old) → HasCleanDisk (state g new)
       → HasFirst HasLab (labs_shown (tables_of (state g old)) code)
       → IsCaused (state g old) (state g new)
-      ⊎ (RefusesChanges code changes (tables_of (state g old)) ⊎ FailsInside g old new)
+      ⊎ (RefusesChanges code changes (tables_of (state g old))
+      ⊎ FailsInsideTrying (TriesOf code changes) g old new)
 
   -- to found a laboratory
   abbrev pub RefusesNewborn : Newborn → Type 0

@@ -7,9 +7,10 @@ ghost use Rattle.sqlite.specs.State.{HasCleanDisk, IsUnchanged, KeepsCommit, Sur
 ghost use Rattle.lab_store_tables.specs.Changes.{InTurn};
 ghost use Rattle.lab_store_tables.specs.Ready.{IsAtRest, IsReady, LeavesNoMore};
 ghost use Rattle.lab_store_tables.specs.Steps.{StepsBy, AreMadeIfAny};
-ghost use Rattle.lab_store_write.specs.Calls.{FailsFor, Steps};
+ghost use Rattle.lab_store_write.specs.Calls.{FailsForTrying, Steps};
 ghost use Rattle.lab_store_write_changes.specs.Causes.{OneIsTooMuch};
-ghost use Rattle.lab_store.specs.Causes.{ChangesHaveTheirCause, TransactionHasItsCause};
+ghost use Rattle.lab_store_write_changes.specs.Tried.{TriesAll};
+ghost use Rattle.lab_store.specs.Causes.{ChangesHaveTheirCause, TransactionHasItsCauseTrying};
 ghost use Rattle.lab_store.specs.Commits.{EndsStep};
 ghost use Rattle.lab_store.specs.Counting.{IsKeeping};
 
@@ -43,8 +44,9 @@ fn make_inside<S: Alter>(
         (state S.Store tx.old.conn.now) (state S.Store tx.new.conn.now) }
     ensures survives { Survives
         (state S.Store tx.old.conn.now) (state S.Store tx.new.conn.now) (λ _. ⊥) }
-    ensures failed { FailsFor (λ _. OneIsTooMuch changes.now) (state S.Store)
-        tx.old.conn.now tx.new.conn.now result }
+    ensures failed { IsDatabase (state S.Store tx.old.conn.now).now →
+        FailsForTrying (λ _. OneIsTooMuch changes.now) (TriesAll lab.id changes.now)
+        (state S.Store) tx.old.conn.now tx.new.conn.now result }
 {
     let mut inside = Inside { tx };
     let made = all_inside(&mut inside, lab, changes);
@@ -61,8 +63,8 @@ fn commit_all<S: Alter>(
     requires at_rest { IsAtRest (state S.Store conn.old) }
     ensures ends { EndsStep (InTurn (StepsBy lab.id) changes.now) result
         (state S.Store conn.old) (state S.Store conn.new) }
-    ensures cause { TransactionHasItsCause S.Store (OneIsTooMuch changes.now)
-        conn.old conn.new result }
+    ensures cause { TransactionHasItsCauseTrying (TriesAll lab.id changes.now) S.Store
+        (OneIsTooMuch changes.now) conn.old conn.new result }
 {
     let _rules = conn.schema();
     let mut tx = conn.transaction();

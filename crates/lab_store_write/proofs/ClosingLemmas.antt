@@ -38,6 +38,7 @@ use Rattle.lab_store_write.proofs.Inside.{steps_then}
 use Rattle.lab_store_write.proofs.Lookups.{by_key_query, rows_by_key}
 use Rattle.lab_store_write.proofs.Ours.{ours}
 use Rattle.lab_store_tables.proofs.Comparing.{truth_is, equal_ints}
+pub use Rattle.lab_store_write.specs.Statements.{all_text, others_text}
 
 -- ---- tests
 
@@ -63,9 +64,6 @@ is_open false = equal_ints (pos 0) (pos 0)
 abbrev open_test : Term
 open_test = op2 (Compare Eq Binary) (col 1 8) (lit (Int (pos 0)))
 
-abbrev pub all_text : List ℕ
-all_text = codes "SELECT id FROM sessions WHERE person = ?1 AND closed = 0 ORDER BY id"
-
 pub all_means : Means all_text (by_key_query 5 (is_param 3 0 ∷ open_test ∷ []) (col 1 0 ∷ [])) (codes "id" ∷ [])
 unfolding understood everything
 all_means = record { read = (_, refl); command = refl; unlisted = refl; plain = (refl, refl) }
@@ -79,9 +77,6 @@ all_read old new person rows typed h =
     let t = tables_in old.now.trees in
     rows_by_key 5 session_id session_row (λ _. refl) t.sessions (overlay old.now.trees []) (typed.stored.at Sessions) (typed.rising.at Sessions) all_text (is_param 3 0 ∷ open_test ∷ []) (col 1 0 ∷ []) (codes "id" ∷ []) all_means
     (Int person ∷ []) (is_open_of person All) (λ (one : SessionRow). Int one.id ∷ []) (λ x. ap₂ ◌&&◌ (equal_ints x.person person) (ap (λ (b : Bool). b && true) (is_open x.closed))) (λ x. refl) old new typed.schema refl rows h
-
-abbrev pub others_text : List ℕ
-others_text = codes "SELECT id FROM sessions WHERE person = ?1 AND closed = 0 AND number <> ?2 ORDER BY id"
 
 abbrev others_tests : List Term
 others_tests = is_param 3 0 ∷ open_test ∷ op2 (Compare Ne Binary) (col 1 4) (col 0 1) ∷ []

@@ -13,9 +13,7 @@ use Rattle.lab_store_write.specs.Causes.{is_writing, IsOurs}
 use Rattle.lab_store_write.proofs.Updates.{IsUpdate, by_id, sets}
 use Rattle.lab_store_write.proofs.Inside.{Wrote}
 use Rattle.lab_store_write.proofs.Ours.{ours}
-
-abbrev pub close_text : List ℕ
-close_text = codes "UPDATE sessions SET closed = 1 WHERE id = ?1"
+pub use Rattle.lab_store_write.specs.Statements.{close_text}
 
 abbrev closing : List (List ℕ × Term)
 closing = (codes "closed", lit (Int (pos 1))) ∷ []

@@ -8,9 +8,11 @@ use Rattle.sqlite.specs.declared.error.Error.TheVariants.{SqliteFailure}
 use Rattle.sqlite.specs.declared.error.ErrorCode.TheVariants as code
 use Rattle.sqlite.specs.Values.{IsInt}
 use Rattle.sqlite.specs.State.{State, HasCleanDisk, Survives, ExecutesInside, FailsToQuery, IsTooLate}
+use Rattle.lab_store_tables.specs.Rows.{Tables}
 use Rattle.lab_store_tables.specs.Held.{IsTyped}
+use Rattle.lab_store_tables.specs.Ready.{tables_of}
 use Rattle.lab_store_read.specs.Faults.{is_out_of_memory}
-use Rattle.lab_store_write.specs.Causes.{is_reading, is_writing, IsVain, IsUnread, IsUnnamed, IsOurs, IsRefused, IsNamedInVain, RunsInside, FailsBy}
+use Rattle.lab_store_write.specs.Causes.{is_reading, is_writing, statement, Statement, Tries, Anything, IsVain, IsUnread, IsUnnamed, IsOurs, IsRefused, IsNamedInVain, RunsInside, FailsTrying, FailsBy}
 use Rattle.lab_store_write.proofs.Inside.{none_then}
 
 pub unmoved : (s : State) → Survives s s (λ _. ⊥)
@@ -34,21 +36,45 @@ still_on old new survives inside clean typed = record { inside = inside; clean =
 
 module _ {T : Type 0} (state : T → State) where
   -- by the one statement of the call
-  pub fails_here : (a b : T) (e : Error) → RunsInside (state a) (state b) → IsRefused (state a) (state b) e ⊎ IsNamedInVain (state a) (state b) e → FailsBy state a b e
-  fails_here a b e goes why = inr (record { last = a; led = unmoved (state a); ran = goes; why = why })
+  pub fails_here : (tries : Tries) (one : Statement) (a b : T) (e : Error) → tries (tables_of (state a)) one (tables_of (state a)) → RunsInside (state a) (state b)
+      → IsRefused one (state a) (state b) e ⊎ IsNamedInVain one (state a) (state b) e → FailsTrying tries state a b e
+  fails_here tries one a b e own goes why = inr (record { last = a; led = unmoved (state a); ran = goes; tried = one; own = own; why = why })
+
+  pub ran_badly_by : (tries : Tries) (sql : List ℕ) (params : Row) → IsOurs is_writing sql params → (a b : T) (e : Error) → tries (tables_of (state a)) (statement sql params) (tables_of (state a))
+      → RunsInside (state a) (state b) → ExecutesInside 0 sql params (state a) (state b) (Err e) → FailsTrying tries state a b e
+  ran_badly_by tries sql params ours a b e own goes ran = fails_here tries (statement sql params) a b e own goes (inl (inl (ours, ran)))
 
   pub ran_badly : (sql : List ℕ) (params : Row) → IsOurs is_writing sql params → (a b : T) (e : Error) → RunsInside (state a) (state b) → ExecutesInside 0 sql params (state a) (state b) (Err e) → FailsBy state a b e
-  ran_badly sql params ours a b e goes ran = fails_here a b e goes (inl (record { sql = sql; params = params; refused = inl (ours, ran) }))
+  ran_badly sql params ours a b e goes ran = ran_badly_by Anything sql params ours a b e tt goes ran
 
-  pub asked_badly : (sql : List ℕ) (params : Row) → IsOurs is_reading sql params → (a b : T) (e : Error) → RunsInside (state a) (state b)
-      → FailsToQuery sql params (state a) (state b) e ⊎ IsTooLate sql params (state a) (state b) e → FailsBy state a b e
-  asked_badly sql params ours a b e goes (inl asked) = fails_here a b e goes (inl (record { sql = sql; params = params; refused = inr (ours, asked) }))
-  asked_badly sql params ours a b e goes (inr late) = absurd (let on = goes.inside in let off = late.3 in cc)
+  pub asked_badly_by : (tries : Tries) (sql : List ℕ) (params : Row) → IsOurs is_reading sql params → (a b : T) (e : Error) → tries (tables_of (state a)) (statement sql params) (tables_of (state a))
+      → RunsInside (state a) (state b) → FailsToQuery sql params (state a) (state b) e ⊎ IsTooLate sql params (state a) (state b) e → FailsTrying tries state a b e
+  asked_badly_by tries sql params ours a b e own goes (inl asked) = fails_here tries (statement sql params) a b e own goes (inl (inr (ours, asked)))
+  asked_badly_by tries sql params ours a b e own goes (inr late) = absurd (let on = goes.inside in let off = late.3 in cc)
+
+  -- by what other calls may try, too
+  pub fails_trying : {tries : Tries} (more : Tries) (a b : T) (e : Error) → ((tried : Statement) (at : Tables) → tries (tables_of (state a)) tried at → more (tables_of (state a)) tried at)
+      → FailsTrying tries state a b e → FailsTrying more state a b e
+  fails_trying more a b e own (inl memory) = inl memory
+  fails_trying more a b e own (inr it) =
+      inr (record { last = it.last; led = it.led; ran = it.ran; tried = it.tried; own = own it.tried (tables_of (state it.last)) it.own; why = it.why })
 
   -- behind other calls
-  pub fails_behind : (a b c : T) (e : Error) → Survives (state a) (state b) (λ _. ⊥) → FailsBy state b c e → FailsBy state a c e
-  fails_behind a b c e led (inl memory) = inl memory
-  fails_behind a b c e led (inr it) = inr (record { last = it.last; led = none_then (state a) (state b) (state it.last) led it.led; ran = it.ran; why = it.why })
+  pub fails_behind_by : {tries : Tries} (more : Tries) (a b c : T) (e : Error) → ((tried : Statement) (at : Tables) → tries (tables_of (state b)) tried at → more (tables_of (state a)) tried at)
+      → Survives (state a) (state b) (λ _. ⊥) → FailsTrying tries state b c e → FailsTrying more state a c e
+  fails_behind_by more a b c e own led (inl memory) = inl memory
+  fails_behind_by more a b c e own led (inr it) =
+      inr (record {
+        last = it.last;
+        led = none_then (state a) (state b) (state it.last) led it.led;
+        ran = it.ran;
+        tried = it.tried;
+        own = own it.tried (tables_of (state it.last)) it.own;
+        why = it.why;
+      })
+
+  pub fails_behind : {tries : Tries} (a b c : T) (e : Error) → Survives (state a) (state b) (λ _. ⊥) → FailsTrying tries state b c e → FailsBy state a c e
+  fails_behind a b c e led it = fails_behind_by Anything a b c e (λ _ _ _. tt) led it
 
 -- ---- an id that isn't read
 

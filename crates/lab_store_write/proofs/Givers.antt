@@ -5,18 +5,22 @@ use Rattle.sqlite.specs.State.{State}
 use Rattle.lab_store_tables.specs.Rows.{PersonRow, Tables, person_id}
 use Rattle.lab_store_tables.specs.Changes.{InTurn, is_person}
 use Rattle.lab_store_write.specs.declared.named.Giver.{Giver}
-use Rattle.lab_store_write.specs.Calls.{AnswersUnless, MadeFrom}
+use Rattle.lab_store_write.specs.Calls.{AnswersUnlessTrying, AnswersUnless, MadeFrom}
+use Rattle.lab_store_write.specs.Causes.{Tries}
 use Rattle.lab_store_write.specs.Givers.{Knows, EachKnowing}
+use Rattle.lab_store_write.specs.Tried.{TriedFrom}
 use Rattle.lab_store_write.proofs.Inside.{steps_weaker}
-use Rattle.lab_store_write.proofs.Writers.{answers_as}
+use Rattle.lab_store_write.proofs.Writers.{answers_as, tries_as, untold}
 
 -- a step that is made whoever is known, or where nobody need be
 module _ {T A : Type 0} {lender : T → ℕ × ℕ} {state : T → State} {Beside : Error → Type 0} {step : Tables → Tables → Type 0} {a b : T} {r : Result A Error} where
-  pub by_whomever : {K : Tables → Type 0} → AnswersUnless Beside lender state (λ _. step) a b r → AnswersUnless Beside lender state (λ _. MadeFrom K step) a b r
-  by_whomever it = answers_as it (λ _. steps_weaker _ _ _ _ (λ before after did known. did))
+  pub by_whomever : {tries : Tries} {K : Tables → Type 0} → AnswersUnlessTrying Beside tries lender state (λ _. step) a b r
+      → AnswersUnlessTrying Beside (TriedFrom K tries) lender state (λ _. MadeFrom K step) a b r
+  by_whomever {tries} {K} it = tries_as {more = TriedFrom K tries} (λ before tried at own known. own) (answers_as it (λ _. steps_weaker _ _ _ _ (λ before after did known. did)))
 
-  pub by_nobody : (lab : ℤ) → AnswersUnless Beside lender state (λ _. MadeFrom (Knows lab None) step) a b r → AnswersUnless Beside lender state (λ _. step) a b r
-  by_nobody lab it = answers_as it (λ _. steps_weaker _ _ _ _ (λ before after did. did tt))
+  -- it isn't said what is tried
+  pub by_nobody : {tries : Tries} (lab : ℤ) → AnswersUnlessTrying Beside tries lender state (λ _. MadeFrom (Knows lab None) step) a b r → AnswersUnless Beside lender state (λ _. step) a b r
+  by_nobody lab it = untold (answers_as it (λ _. steps_weaker _ _ _ _ (λ before after did. did tt)))
 
 module _ (lab : ℤ) where
   pub known_still : (giver : Option Giver) (old new : Tables) → new.persons ≡ old.persons → Knows lab giver old → Knows lab giver new

@@ -22,11 +22,9 @@ use Rattle.lab_store_write.proofs.Inside.{steps_weaker, steps_none}
 use Rattle.lab_store_write.proofs.Ours.{ours}
 use Rattle.lab_store_write.proofs.Lookups.{by_key_query, rows_by_key, first_key}
 use Rattle.lab_store_tables.proofs.Comparing.{equal_ints, equal_texts}
+pub use Rattle.lab_store_write.specs.Statements.{person_text}
 
 -- ---- a person by the code
-
-abbrev pub person_text : List ℕ
-person_text = codes "SELECT id FROM persons WHERE lab = ?1 AND code = ?2 ORDER BY id"
 
 abbrev person_tests : List Term
 person_tests = is_param 2 0 ∷ is_param 3 1 ∷ []

@@ -11,7 +11,7 @@ use Rattle.lab_people_access.specs.declared.sessions.Closing.TheVariants.{Nothin
 use Rattle.lab_store_tables.specs.Rows.{Tables}
 use Rattle.lab_store_write.specs.Closings.{opened_shown, close_one, close_of, ClosesOf}
 
-abbrev third : Session
+abbrev pub third : Session
 third = record {
   number = 3;
   person = codes "dan";
@@ -28,7 +28,7 @@ pub known_added :
     ≡ file.sessions ++ session (pos 5) (pos 7) (pos 2) 3 (filled 32 44) 1590 1600 false true ∷ []
 known_added = refl
 
-abbrev later : Session
+abbrev pub later : Session
 later = record {
   number = 1;
   person = codes "dan";

@@ -21,7 +21,7 @@ pub known_shown : (persons_shown (pos 7) (codes "dan") file ≡ only (pos 2)) ×
     × (persons_shown (pos 3) (codes "eve") file ≡ []) × (id_read (Int (pos 7) ∷ Int (pos 9) ∷ []) ≡ pos 7)
 known_shown = (refl, refl, refl, refl)
 
-abbrev locked : Told
+abbrev pub locked : Told
 locked = record bare_told { number = 13; moment = 1600; action = Lock; subject = codes "dan" }
 
 -- it has the next id of its table, and stands behind the others

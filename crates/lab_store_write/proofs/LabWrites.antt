@@ -12,11 +12,9 @@ use Rattle.lab_store_write.specs.Causes.{is_writing, IsOurs}
 use Rattle.lab_store_write.proofs.Updates.{IsUpdate, given, by_id, sets}
 use Rattle.lab_store_write.proofs.Inside.{Wrote}
 use Rattle.lab_store_write.proofs.Ours.{ours}
+pub use Rattle.lab_store_write.specs.Statements.{last_text, strays_text, sessions_text, trail_text, row_text}
 
 -- ---- the last moment
-
-abbrev pub last_text : List ℕ
-last_text = codes "UPDATE labs SET last = ?2 WHERE id = ?1"
 
 last_is : IsUpdate Labs by_id (given 1 (codes "last" ∷ [])) last_text
 unfolding understood everything
@@ -31,9 +29,6 @@ pub sets_last : (id : ℤ) (count : ℕ) (old new : State) (rows : ℕ) → IsTy
 sets_last id count = sets Labs (given 1 (codes "last" ∷ [])) last_text last_is id (number count ∷ []) (λ (one : LabRow). record one { last = count }) (λ _. refl) (λ _. refl)
 
 -- ---- the number of stray passwords
-
-abbrev pub strays_text : List ℕ
-strays_text = codes "UPDATE labs SET stray = ?2 WHERE id = ?1"
 
 strays_is : IsUpdate Labs by_id (given 1 (codes "stray" ∷ [])) strays_text
 unfolding understood everything
@@ -66,9 +61,6 @@ sets_records id count = sets Labs (given 1 (codes "records" ∷ [])) records_tex
 
 -- ---- the counter of sessions
 
-abbrev pub sessions_text : List ℕ
-sessions_text = codes "UPDATE labs SET sessions = ?2 WHERE id = ?1"
-
 sessions_is : IsUpdate Labs by_id (given 1 (codes "sessions" ∷ [])) sessions_text
 unfolding understood everything
 sessions_is = ((refl, refl), refl)
@@ -83,9 +75,6 @@ sets_sessions id count = sets Labs (given 1 (codes "sessions" ∷ [])) sessions_
 
 -- ---- the counter of the trail
 
-abbrev pub trail_text : List ℕ
-trail_text = codes "UPDATE labs SET trail = ?2 WHERE id = ?1"
-
 trail_is : IsUpdate Labs by_id (given 1 (codes "trail" ∷ [])) trail_text
 unfolding understood everything
 trail_is = ((refl, refl), refl)
@@ -99,9 +88,6 @@ pub sets_trail : (id : ℤ) (count : ℕ) (old new : State) (rows : ℕ) → IsT
 sets_trail id count = sets Labs (given 1 (codes "trail" ∷ [])) trail_text trail_is id (number count ∷ []) (λ (one : LabRow). record one { trail = count }) (λ _. refl) (λ _. refl)
 
 -- ---- the last moment with the counter of the trail
-
-abbrev pub row_text : List ℕ
-row_text = codes "UPDATE labs SET last = ?2, trail = ?3 WHERE id = ?1"
 
 row_is : IsUpdate Labs by_id (given 1 (codes "last" ∷ codes "trail" ∷ [])) row_text
 unfolding understood everything

@@ -11,6 +11,7 @@ pub mod KeyLemmas
 pub mod KnownOurs
 pub mod KnownPersons
 pub mod KnownSessions
+pub mod KnownTried
 pub mod KnownValues
 pub mod LabWrites
 pub mod Later
@@ -24,6 +25,7 @@ pub mod SessionWrites
 pub mod TrailAddedLemmas
 pub mod TrailWrites
 pub mod Transactions
+pub mod Trying
 pub mod Unread
 pub mod Updates
 pub mod Writers

@@ -1,5 +1,5 @@
 -- What each statement on persons means, and what it makes of the tables.
-use Rattle.std.proofs.Common.{◌≡◌, ℕ, ℤ, List, ◌∷◌, codes, Ok, refl, ap, subst, lit≤, int_eq}
+use Rattle.std.proofs.Common.{◌≡◌, ℕ, ℤ, List, ◌∷◌, Ok, refl, ap, subst, lit≤, int_eq}
 use Rattle.sqlite_value.specs.declared.value.Value.TheVariants.{Int}
 use Rattle.sqlite_value.specs.Order.{Row}
 use Rattle.sqlite_tied.specs.Compute.{everything}
@@ -20,11 +20,9 @@ use Rattle.lab_store_write.proofs.Updates.{IsUpdate, given, by_id, sets}
 use Rattle.lab_store_write.proofs.Writes.{update_same}
 use Rattle.lab_store_write.proofs.Inside.{Wrote}
 use Rattle.lab_store_write.proofs.Ours.{ours}
+pub use Rattle.lab_store_write.specs.Statements.{add_person_text, set_person_text}
 
 -- ---- a row more of persons
-
-abbrev pub add_person_text : List ℕ
-add_person_text = codes "INSERT INTO persons (lab, code, name, roles, retired, failures, locked, kind, salt, rounds, bytes, salt2, rounds2, bytes2, changed, asker, asked, ask_salt, ask_rounds, ask_bytes) VALUES (?1, ?2, ?3, ?4, ?5, ?6, ?7, ?8, ?9, ?10, ?11, ?12, ?13, ?14, ?15, ?16, ?17, ?18, ?19, ?20)"
 
 -- the columns of the row but its ids
 abbrev pub person_values : PersonRow → Row
@@ -38,9 +36,6 @@ pub add_person_ours : (one : PersonRow) → IsOurs is_writing add_person_text (p
 add_person_ours = adds_ours Persons
 
 -- ---- a row of persons set, but its ids
-
-abbrev pub set_person_text : List ℕ
-set_person_text = codes "UPDATE persons SET lab = ?2, code = ?3, name = ?4, roles = ?5, retired = ?6, failures = ?7, locked = ?8, kind = ?9, salt = ?10, rounds = ?11, bytes = ?12, salt2 = ?13, rounds2 = ?14, bytes2 = ?15, changed = ?16, asker = ?17, asked = ?18, ask_salt = ?19, ask_rounds = ?20, ask_bytes = ?21 WHERE id = ?1"
 
 set_person_is : IsUpdate Persons by_id (given 1 (names (kept Persons).sheet.columns)) set_person_text
 unfolding understood everything

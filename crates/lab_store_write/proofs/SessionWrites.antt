@@ -2,7 +2,6 @@
 use Rattle.std.proofs.Common.{◌≡◌, inl, inr, ℕ, ℤ, ◌<ℤ◌, Bool, true, false, not, ◌&&◌, cond, List, [], ◌∷◌, filter, slice_get, codes, option_map, Ok, refl, sym, ap, ap₂, subst, ◌∙◌, arith, lit≤, int_eq, bytes_eq}
 use Rattle.std.proofs.lemmas.Int.{ints}
 use Rattle.std.proofs.lemmas.Bool.{and_parts, and_from, not-true, both_ways}
-use Rattle.sqlite_value.specs.declared.value.Value.TheVariants.{Int, Blob}
 use Rattle.sqlite_value.specs.Keys.{plain, first_key}
 use Rattle.sqlite_value.specs.Order.{Row, column}
 use Rattle.sqlite_schema.specs.declared.schema.Constraint.TheVariants.{Unique}
@@ -22,7 +21,7 @@ use Rattle.sqlite.specs.Listing.{understood}
 use Rattle.sqlite.specs.State.{State, Executes}
 use Rattle.lab_people_access.specs.declared.sessions.Session.{Session}
 use Rattle.lab_store_tables.specs.Schema.{lab_schema}
-use Rattle.lab_store_tables.specs.Rows.{SessionRow, Tables, session_id, tables_in, number, flag}
+use Rattle.lab_store_tables.specs.Rows.{SessionRow, Tables, session_id, tables_in, number}
 use Rattle.lab_store_tables.proofs.RowWords.{session_row}
 use Rattle.lab_store_tables.specs.Changes.{is_session, put_session, session_row_of}
 use Rattle.lab_store_tables.specs.Held.{IsTyped}
@@ -40,11 +39,9 @@ use Rattle.lab_store_write.proofs.Inside.{Wrote}
 use Rattle.lab_store_write.proofs.Ours.{ours}
 use Rattle.lab_store_write.specs.Added.{SetsIfAny}
 use Rattle.lab_store_tables.proofs.Comparing.{equal_ints, text_is, text_alike, equal_blobs, ids_differ}
+pub use Rattle.lab_store_write.specs.Statements.{add_session_text, set_session_text, set_session_values}
 
 -- ---- a row more of sessions
-
-abbrev pub add_session_text : List ℕ
-add_session_text = codes "INSERT INTO sessions (lab, person, number, token, opened, last, closed, signed) VALUES (?1, ?2, ?3, ?4, ?5, ?6, ?7, ?8)"
 
 -- the columns of the row but its ids
 abbrev pub session_values : SessionRow → Row
@@ -59,9 +56,6 @@ add_session_ours = adds_ours Sessions
 
 -- ---- the row of a token set
 
-abbrev pub set_session_text : List ℕ
-set_session_text = codes "UPDATE sessions SET person = ?3, number = ?4, opened = ?5, last = ?6, closed = ?7, signed = ?8 WHERE lab = ?1 AND token = ?2"
-
 abbrev set_session_tests : List Term
 set_session_tests = is_param 2 0 ∷ is_param 5 1 ∷ []
 
@@ -71,10 +65,6 @@ setting = given 2 (codes "person" ∷ codes "number" ∷ codes "opened" ∷ code
 set_session_is : IsUpdate Sessions set_session_tests setting set_session_text
 unfolding understood everything
 set_session_is = ((refl, refl), refl)
-
--- the laboratory and the token, and then what is set
-abbrev pub set_session_values : ℤ → ℤ → Session → Row
-set_session_values lab person session = Int lab ∷ Blob session.token ∷ Int person ∷ number session.number ∷ number session.opened ∷ number session.last ∷ flag session.closed ∷ flag session.signed ∷ []
 
 pub set_session_ours : (lab person : ℤ) (session : Session) → IsOurs is_writing set_session_text (set_session_values lab person session)
 unfolding understood everything

@@ -1,5 +1,5 @@
 -- What the statement on the trail means, and what it makes of the tables.
-use Rattle.std.proofs.Common.{◌≡◌, ℕ, List, codes, Ok}
+use Rattle.std.proofs.Common.{◌≡◌, ℕ, Ok}
 use Rattle.sqlite_value.specs.Order.{Row}
 use Rattle.sqlite_keyed.specs.Keyed.{next_key}
 use Rattle.sqlite.specs.State.{State, Executes}
@@ -10,11 +10,9 @@ use Rattle.lab_store_tables.specs.Family.{Trail}
 use Rattle.lab_store_tables.proofs.FamilyWords.{values_of}
 use Rattle.lab_store_write.proofs.Inserts.{adds}
 use Rattle.lab_store_write.proofs.Inside.{Wrote}
+pub use Rattle.lab_store_write.specs.Statements.{add_told_text}
 
 -- ---- a row more of trail
-
-abbrev pub add_told_text : List ℕ
-add_told_text = codes "INSERT INTO trail (lab, number, moment, person, action, subject) VALUES (?1, ?2, ?3, ?4, ?5, ?6)"
 
 -- the columns of the row but its ids
 abbrev pub told_values : TrailRow → Row

@@ -1,5 +1,5 @@
 -- A transaction that ended for a cause: for the last statement of its transaction, or for a cause of its connection.
-use Rattle.std.proofs.Common.{◌≡◌, ◌⊎◌, inl, inr, ℕ, ◌≤◌, Bool, true, false, Ok, Err, Result, IfErr, IsTrue, IsFalse, refl, sym, ap, subst, ◌∙◌, arith}
+use Rattle.std.proofs.Common.{◌≡◌, ◌⊎◌, inl, inr, ℕ, ◌≤◌, Bool, true, false, Ok, Err, Result, IfErr, IsTrue, IsFalse, refl, sym, subst, ◌∙◌, arith}
 use Rattle.std.specs.Prelude.{IsErrAnd}
 use Rattle.std.proofs.lemmas.Bool.{cases_Bool}
 use Rattle.sqlite_trees.specs.declared.store.Store.{Ghosts}
@@ -8,7 +8,7 @@ use Rattle.sqlite_trees.specs.declared.error.StoreError.TheVariants.{OutOfMemory
 use Rattle.sqlite_trees.specs.Tree.{Trees}
 use Rattle.sqlite.specs.declared.error.Error.{Error}
 use Rattle.sqlite.specs.Held.{Held, state}
-use Rattle.sqlite.specs.State.{State, HasCause, HasCleanDisk, IsRolledBack, IsUnchanged, Survives, store_error}
+use Rattle.sqlite.specs.State.{State, HasCause, HasCleanDisk, IsRolledBack, Survives, store_error}
 use Rattle.sqlite.specs.Steps.{FailsToCommit}
 use Rattle.sqlite.proofs.Callers.{survives_begin}
 use Rattle.lab_records_keeper.specs.Worlds.{HasFaulted}
@@ -16,8 +16,8 @@ use Rattle.lab_store_tables.specs.Held.{IsTyped}
 use Rattle.lab_store_read.specs.Causes.{IsCaused}
 use Rattle.lab_store_read.specs.Cells.{storage}
 use Rattle.lab_store_read.specs.Faults.{is_out_of_memory, store_fault}
-use Rattle.lab_store_write.specs.Causes.{EndsBy, FailsBy}
-use Rattle.lab_store_write.specs.Transactions.{EndsForCause, FailsWithin, HasOurTables, StaysAsIs, TransactionEndsForCause}
+use Rattle.lab_store_write.specs.Causes.{Tries, Anything, EndsTrying, FailsTrying, FailsBy}
+use Rattle.lab_store_write.specs.Transactions.{EndsForCauseTrying, FailsWithin, HasOurTables, StaysAsIs, TransactionEndsForCause, TransactionEndsForCauseTrying}
 
 -- ---- what is told of an error
 
@@ -31,12 +31,16 @@ isnt_memory e told = elim (cases_Bool (is_out_of_memory e)) [
 -- ---- calls inside a transaction, by another view of its states
 
 module _ {T U : Type 0} (f : T → U) (state : U → State) where
+  pub fails_as_trying : (tries : Tries) (Beside : Type 0) (a b : T) {B : Type 0} (r : Result B Error) → IfErr r (λ e. Beside ⊎ FailsTrying tries (λ t. state (f t)) a b e)
+      → IfErr r (λ e. Beside ⊎ FailsTrying tries state (f a) (f b) e)
+  fails_as_trying tries Beside a b (Ok x) why = tt
+  fails_as_trying tries Beside a b (Err e) (inl beside) = inl beside
+  fails_as_trying tries Beside a b (Err e) (inr (inl memory)) = inr (inl memory)
+  fails_as_trying tries Beside a b (Err e) (inr (inr it)) = inr (inr (record { last = f it.last; led = it.led; ran = it.ran; tried = it.tried; own = it.own; why = it.why }))
+
   pub fails_as : (Beside : Type 0) (a b : T) {B : Type 0} (r : Result B Error) → IfErr r (λ e. Beside ⊎ FailsBy (λ t. state (f t)) a b e)
       → IfErr r (λ e. Beside ⊎ FailsBy state (f a) (f b) e)
-  fails_as Beside a b (Ok x) why = tt
-  fails_as Beside a b (Err e) (inl beside) = inl beside
-  fails_as Beside a b (Err e) (inr (inl memory)) = inr (inl memory)
-  fails_as Beside a b (Err e) (inr (inr it)) = inr (inr (record { last = f it.last; led = it.led; ran = it.ran; why = it.why }))
+  fails_as Beside a b r why = fails_as_trying Anything Beside a b r why
 
 -- ---- a fault that was seen between
 
@@ -112,22 +116,29 @@ module _ {S : Type 0} (g : Ghosts S) (old begun last end : Held S) (is : begun �
     pub limit_kept : (state g end).step_limit ≡ (state g old).step_limit
     limit_kept = three.limit ∙ so_far.limit
 
-  -- over tables of ours
-  module _ {Beside : Type 0} {e : Error} (why : IsTrue (state g begun).in_transaction → HasCleanDisk (state g last) → IsTyped (state g begun).now → Beside ⊎ FailsBy (state g) begun last e)
+  -- over tables of ours, on a connection that was open
+  module _ {tries : Tries} {Beside : Type 0} {e : Error}
+      (why : IsTrue (state g old).is_open → IsTrue (state g begun).in_transaction → HasCleanDisk (state g last) → IsTyped (state g begun).now → Beside ⊎ FailsTrying tries (state g) begun last e)
       (three : Survives (state g last) (state g end) (λ _. ⊥)) (undone : HasCleanDisk (state g end) → IsRolledBack (state g last) (state g end)) where
     typed_then : HasOurTables (state g old) → IsTrue (state g old).is_open → HasCleanDisk (state g last) → IsTyped (state g begun).now
     typed_then ours opened clean =
         let clean_old : HasCleanDisk (state g old) = omega (arith, so_far.clean) in
         subst (λ h. IsTyped (state g h).now) (sym is) (ours clean_old opened)
 
-    pub given_up_so : {B : Type 0} (r : Result B Error) → IsErrAnd r (λ d. d ≡ e) → TransactionEndsForCause g Beside old end r
-    given_up_so (Ok x) failed = absurd failed
-    given_up_so (Err d) failed = record {
+    pub given_up_trying : {B : Type 0} (r : Result B Error) → IsErrAnd r (λ d. d ≡ e) → TransactionEndsForCauseTrying tries g Beside old end r
+    given_up_trying (Ok x) failed = absurd failed
+    given_up_trying (Err d) failed = record {
       limit = three.limit ∙ so_far.limit;
       cause = λ ours clean told.
-          given_up_within (EndsBy (state g)) (λ opened inside clean. why inside clean (typed_then ours opened clean)) three undone clean
+          given_up_within (EndsTrying tries (state g)) (λ opened inside clean. why opened inside clean (typed_then ours opened clean)) three undone clean
           (subst (λ (d : Error). IsFalse (is_out_of_memory d)) failed told);
     }
+
+  -- it isn't said what was tried
+  module _ {Beside : Type 0} {e : Error} (why : IsTrue (state g begun).in_transaction → HasCleanDisk (state g last) → IsTyped (state g begun).now → Beside ⊎ FailsBy (state g) begun last e)
+      (three : Survives (state g last) (state g end) (λ _. ⊥)) (undone : HasCleanDisk (state g end) → IsRolledBack (state g last) (state g end)) where
+    pub given_up_so : {B : Type 0} (r : Result B Error) → IsErrAnd r (λ d. d ≡ e) → TransactionEndsForCause g Beside old end r
+    given_up_so r failed = given_up_trying {tries = Anything} (λ _. why) three undone r failed
 
   -- its commit failed
   module _ (inside : HasCleanDisk (state g last) → IsTrue (state g last).in_transaction) {Commits : Trees → Type 0} (three : Survives (state g last) (state g end) Commits) where
@@ -153,16 +164,20 @@ module _ {S : Type 0} (g : Ghosts S) (old begun last end : Held S) (is : begun �
         let clean_last : HasCleanDisk (state g last) = omega (arith, three.clean) in
         absurd (let on = inside clean_last in let off = it.1 in cc)
 
-    pub committed_so : {B : Type 0} (Beside : Type 0) (r : Result B Error) → (HasCleanDisk (state g end) → IfErr r (FailsToCommit (state g last) (state g end)))
-        → TransactionEndsForCause g Beside old end r
-    committed_so Beside (Ok x) err = record { limit = three.limit ∙ so_far.limit; cause = λ ours clean. tt }
-    committed_so Beside (Err e) err = record {
+    pub committed_trying : (tries : Tries) {B : Type 0} (Beside : Type 0) (r : Result B Error) → (HasCleanDisk (state g end) → IfErr r (FailsToCommit (state g last) (state g end)))
+        → TransactionEndsForCauseTrying tries g Beside old end r
+    committed_trying tries Beside (Ok x) err = record { limit = three.limit ∙ so_far.limit; cause = λ ours clean. tt }
+    committed_trying tries Beside (Err e) err = record {
       limit = three.limit ∙ so_far.limit;
       cause = λ ours clean told. inl (commit_fails e clean told (err clean));
     }
 
+    pub committed_so : {B : Type 0} (Beside : Type 0) (r : Result B Error) → (HasCleanDisk (state g end) → IfErr r (FailsToCommit (state g last) (state g end)))
+        → TransactionEndsForCause g Beside old end r
+    committed_so Beside r err = committed_trying Anything Beside r err
+
 -- ---- what is told of a call, where that is told of another: one fault for another
 
-pub told_so : {S A B E F : Type 0} {g : Ghosts S} {IsTold : E → Type 0} {Tells : F → Type 0} {Beside : Type 0} {old new : Held S} (e : E) (f : F) → (Tells f → IsTold e)
-    → EndsForCause {T = A} g IsTold Beside old new (Err e) → EndsForCause {T = B} g Tells Beside old new (Err f)
+pub told_so : {tries : Tries} {S A B E F : Type 0} {g : Ghosts S} {IsTold : E → Type 0} {Tells : F → Type 0} {Beside : Type 0} {old new : Held S} (e : E) (f : F) → (Tells f → IsTold e)
+    → EndsForCauseTrying tries {T = A} g IsTold Beside old new (Err e) → EndsForCauseTrying tries {T = B} g Tells Beside old new (Err f)
 told_so e f met it = record { limit = it.limit; cause = λ ours clean told. it.cause ours clean (met told) }

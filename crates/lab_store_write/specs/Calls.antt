@@ -12,7 +12,7 @@ use Rattle.sqlite.specs.State.{State, HasCleanDisk, KeepsCommit, Survives, Shown
 use Rattle.lab_store_tables.specs.Rows.{Tables}
 use Rattle.lab_store_tables.specs.Held.{IsTyped}
 use Rattle.lab_store_tables.specs.Ready.{IsMadeBy}
-use Rattle.lab_store_write.specs.Causes.{FailsBy}
+use Rattle.lab_store_write.specs.Causes.{Tries, Anything, FailsTrying}
 
 -- a call that ended well: the transaction goes on, the step is made, and a database that obeyed its
 -- own rules still does
@@ -33,36 +33,61 @@ pub record Stays {T : Type 0} (lender : T → ℕ × ℕ) (state : T → State) 
 
 -- a call inside a transaction, over tables of ours, fails for its causes alone, or for what is told
 -- beside them
+abbrev pub FailsForTrying : (Error → Type 0) → Tries → {T A : Type 0} → (T → State) → T → T
+    → Result A Error → Type 0
+FailsForTrying Beside tries state old new result =
+    IsTrue (state old).in_transaction → HasCleanDisk (state new) → IsTyped (state old).now
+    → IfErr result (λ e. Beside e ⊎ FailsTrying tries state old new e)
+
 abbrev pub FailsFor : (Error → Type 0) → {T A : Type 0} → (T → State) → T → T → Result A Error
     → Type 0
-FailsFor Beside state old new result =
-    IsTrue (state old).in_transaction → HasCleanDisk (state new) → IsTyped (state old).now
-    → IfErr result (λ e. Beside e ⊎ FailsBy state old new e)
+FailsFor Beside state old new result = FailsForTrying Beside Anything state old new result
 
 -- so does a call that answers; where a transaction was under way and it answered well, it made the
 -- step that belongs to the answer
-pub record AnswersUnless (Beside : Error → Type 0) {T A : Type 0} (lender : T → ℕ × ℕ)
-    (state : T → State) (step : A → Tables → Tables → Type 0) (old new : T)
+pub record AnswersUnlessTrying (Beside : Error → Type 0) (tries : Tries) {T A : Type 0}
+    (lender : T → ℕ × ℕ) (state : T → State) (step : A → Tables → Tables → Type 0) (old new : T)
     (result : Result A Error) : Type 0 where
   pub stays : Stays lender state old new
   pub made : IsTrue (state old).in_transaction → HasCleanDisk (state new)
       → IfOk result (λ one. Steps (step one) (state old) (state new))
-  pub failed : FailsFor Beside state old new result
+  pub failed : FailsForTrying Beside tries state old new result
+
+abbrev pub AnswersUnless : (Error → Type 0) → {T A : Type 0} → (T → ℕ × ℕ) → (T → State)
+    → (A → Tables → Tables → Type 0) → T → T → Result A Error → Type 0
+AnswersUnless Beside lender state step old new result =
+    AnswersUnlessTrying Beside Anything lender state step old new result
 
 abbrev pub AnswersCall : {T A : Type 0} → (T → ℕ × ℕ) → (T → State)
     → (A → Tables → Tables → Type 0) → T → T → Result A Error → Type 0
 AnswersCall lender state step old new result =
     AnswersUnless (λ _. ⊥) lender state step old new result
 
+-- by statements that are told
+abbrev pub AnswersTrying : Tries → {T A : Type 0} → (T → ℕ × ℕ) → (T → State)
+    → (A → Tables → Tables → Type 0) → T → T → Result A Error → Type 0
+AnswersTrying tries lender state step old new result =
+    AnswersUnlessTrying (λ _. ⊥) tries lender state step old new result
+
 -- a call that makes one step, whatever it answers
 abbrev pub Writes : {T A : Type 0} → (T → ℕ × ℕ) → (T → State) → (Tables → Tables → Type 0)
     → T → T → Result A Error → Type 0
 Writes lender state step old new result = AnswersCall lender state (λ _. step) old new result
 
+abbrev pub WritesTrying : Tries → {T A : Type 0} → (T → ℕ × ℕ) → (T → State)
+    → (Tables → Tables → Type 0) → T → T → Result A Error → Type 0
+WritesTrying tries lender state step old new result =
+    AnswersTrying tries lender state (λ _. step) old new result
+
 abbrev pub WritesUnless : (Error → Type 0) → {T A : Type 0} → (T → ℕ × ℕ) → (T → State)
     → (Tables → Tables → Type 0) → T → T → Result A Error → Type 0
 WritesUnless Beside lender state step old new result =
     AnswersUnless Beside lender state (λ _. step) old new result
+
+abbrev pub WritesUnlessTrying : (Error → Type 0) → Tries → {T A : Type 0} → (T → ℕ × ℕ)
+    → (T → State) → (Tables → Tables → Type 0) → T → T → Result A Error → Type 0
+WritesUnlessTrying Beside tries lender state step old new result =
+    AnswersUnlessTrying Beside tries lender state (λ _. step) old new result
 
 -- a step that makes these tables of those before
 abbrev pub Becomes : (Tables → Tables) → Tables → Tables → Type 0

@@ -1,7 +1,8 @@
 -- Why a call inside a transaction fails: memory ran out, or the transaction refused the last
 -- statement of the call, or that statement finds no row of what is named. The statement is one that
 -- our schema understands, on rows, and gets all its parameters: that a text isn't understood, ends or
--- begins a transaction, or shows rows where it is executed, is no cause.
+-- begins a transaction, or shows rows where it is executed, is no cause. It is also one that the
+-- call may try over the tables that its steps have made by then.
 use Rattle.std.specs.Prelude.{◌≡◌, ◌⊎◌, ◌^◌, ◌≤◌, ℕ, Bool, true, false, List, [], length, None, Ok, Err, IsSomeAnd, IsTrue, IsFalse, slice_get}
 use Rattle.std.specs.Option.{option_map_or}
 use Rattle.sqlite_value.specs.Order.{Row}
@@ -12,7 +13,9 @@ use Rattle.sqlite.specs.Listing.{understood, reads_listing}
 use Rattle.sqlite.specs.declared.error.Error.{Error}
 use Rattle.sqlite.specs.declared.error.Error.TheVariants.{QueryReturnedNoRows}
 use Rattle.sqlite.specs.State.{State, HasCleanDisk, Survives, Shown, ExecutesInside, FailsToQuery}
+use Rattle.lab_store_tables.specs.Rows.{Tables}
 use Rattle.lab_store_tables.specs.Held.{IsTyped}
+use Rattle.lab_store_tables.specs.Ready.{tables_of}
 use Rattle.lab_store_tables.specs.Schema.{lab_schema}
 use Rattle.lab_store_read.specs.Cells.{is_id, stands}
 use Rattle.lab_store_read.specs.Faults.{is_out_of_memory}
@@ -64,33 +67,44 @@ pub record IsOurs (is_so : Command → Bool) (sql : List ℕ) (params : Row) : T
   -- its tables are those of our schema, and not the list of them
   pub own : reads_listing lab_schema sql ≡ false
 
--- a statement of ours from here to there shows these rows
-pub record IsShown (old new : State) (rows : List Row) : Type 0 where
+-- a statement, with the values of its parameters
+pub record Statement : Type 0 where
   pub sql : List ℕ
   pub params : Row
-  pub ours : IsOurs is_reading sql params
-  pub shown : Shown sql params old new rows
 
--- a statement of ours from here to there has written so many rows
-pub record IsRun (old new : State) (count : ℕ) : Type 0 where
-  pub sql : List ℕ
-  pub params : Row
-  pub ours : IsOurs is_writing sql params
-  pub ran : ExecutesInside 0 sql params old new (Ok count)
+abbrev pub statement : List ℕ → Row → Statement
+statement sql params = record { sql = sql; params = params }
 
--- a statement of ours from here to there was refused with the error: one that writes, or one that
--- reads
-pub record IsRefused (old new : State) (e : Error) : Type 0 where
-  pub sql : List ℕ
-  pub params : Row
-  pub refused : (IsOurs is_writing sql params × ExecutesInside 0 sql params old new (Err e))
-      ⊎ (IsOurs is_reading sql params × FailsToQuery sql params old new e)
+-- the statement is ours, and shows these rows from here to there
+pub record IsShown (one : Statement) (old new : State) (rows : List Row) : Type 0 where
+  pub ours : IsOurs is_reading one.sql one.params
+  pub shown : Shown one.sql one.params old new rows
+
+-- it is ours, and has written so many rows
+pub record IsRun (one : Statement) (old new : State) (count : ℕ) : Type 0 where
+  pub ours : IsOurs is_writing one.sql one.params
+  pub ran : ExecutesInside 0 one.sql one.params old new (Ok count)
+
+-- it is ours, and was refused with the error: one that writes, or one that reads
+abbrev pub IsRefused : Statement → State → State → Error → Type 0
+IsRefused one old new e =
+    (IsOurs is_writing one.sql one.params × ExecutesInside 0 one.sql one.params old new (Err e))
+    ⊎ (IsOurs is_reading one.sql one.params × FailsToQuery one.sql one.params old new e)
 
 -- it names a row that isn't there: it writes none; or it shows none, or a first one without an id
-pub record IsNamedInVain (old new : State) (e : Error) : Type 0 where
+pub record IsNamedInVain (one : Statement) (old new : State) (e : Error) : Type 0 where
   pub told : e ≡ QueryReturnedNoRows
-  pub vain : IsRun old new 0
-      ⊎ ((rows : List Row) × IsShown old new rows × IsFalse (names_one rows))
+  pub vain : IsRun one old new 0
+      ⊎ ((rows : List Row) × IsShown one old new rows × IsFalse (names_one rows))
+
+-- which statements a call may try, and over which tables: those before the call, and those that its
+-- steps have made by then
+abbrev pub Tries : Type 1
+Tries = Tables → Statement → Tables → Type 0
+
+-- nothing is said of them
+abbrev pub Anything : Tries
+Anything old tried at = Unit {0}
 
 -- a transaction over tables of ours is under way, and no fault of the disk went unseen so far; from here
 -- to there nothing is committed
@@ -101,16 +115,27 @@ pub record RunsInside (old new : State) : Type 0 where
   pub survives : Survives old new (λ _. ⊥)
 
 -- the last statement of a call, which committed nothing before, was refused or named a row that isn't
--- there
-pub record EndsBy {T : Type 0} (state : T → State) (old new : T) (e : Error) : Type 0 where
+-- there, and is one that the call may try
+pub record EndsTrying (tries : Tries) {T : Type 0} (state : T → State) (old new : T) (e : Error)
+    : Type 0 where
   -- before that statement
   pub last : T
   pub led : Survives (state old) (state last) (λ _. ⊥)
   pub ran : RunsInside (state last) (state new)
-  pub why : IsRefused (state last) (state new) e ⊎ IsNamedInVain (state last) (state new) e
+  pub tried : Statement
+  pub own : tries (tables_of (state old)) tried (tables_of (state last))
+  pub why : IsRefused tried (state last) (state new) e
+      ⊎ IsNamedInVain tried (state last) (state new) e
+
+abbrev pub FailsTrying : Tries → {T : Type 0} → (T → State) → T → T → Error → Type 0
+FailsTrying tries state old new e = IsTrue (is_out_of_memory e) ⊎ EndsTrying tries state old new e
+
+-- it isn't said which
+abbrev pub EndsBy : {T : Type 0} → (T → State) → T → T → Error → Type 0
+EndsBy state old new e = EndsTrying Anything state old new e
 
 abbrev pub FailsBy : {T : Type 0} → (T → State) → T → T → Error → Type 0
-FailsBy state old new e = IsTrue (is_out_of_memory e) ⊎ EndsBy state old new e
+FailsBy state old new e = FailsTrying Anything state old new e
 
 -- no column holds a number as great as this
 abbrev pub IsTooGreat : ℕ → Type 0

@@ -6,5 +6,7 @@ pub mod Givers
 pub mod Ids
 pub mod Persons
 pub mod Shown
+pub mod Statements
 pub mod TrailAdded
 pub mod Transactions
+pub mod Tried

@@ -10,7 +10,7 @@ use Rattle.sqlite.specs.State.{State, HasCleanDisk, IsRolledBack, IsUnchanged, S
 use Rattle.lab_store_tables.specs.Held.{IsTyped}
 use Rattle.lab_store_read.specs.Causes.{IsCaused}
 use Rattle.lab_store_read.specs.Faults.{is_out_of_memory}
-use Rattle.lab_store_write.specs.Causes.{EndsBy}
+use Rattle.lab_store_write.specs.Causes.{Tries, Anything, EndsTrying}
 
 -- a connection that shows what it showed: no fault is forgotten, and the steps have the limit that
 -- they had
@@ -34,24 +34,38 @@ pub record FailsWithin {S : Type 0} (g : Ghosts S) (Ends : Held S → Held S →
   pub ended : Survives (state g last) (state g new) (λ _. ⊥)
   pub undone : IsRolledBack (state g last) (state g new)
 
--- by its last statement, one of ours
+-- by its last statement, one of ours that may be tried there
+abbrev pub FailsInsideTrying : Tries → {S : Type 0} → Ghosts S → Held S → Held S → Type 0
+FailsInsideTrying tries g old new = FailsWithin g (EndsTrying tries (state g)) old new
+
 abbrev pub FailsInside : {S : Type 0} → Ghosts S → Held S → Held S → Type 0
-FailsInside g old new = FailsWithin g (EndsBy (state g)) old new
+FailsInside g old new = FailsInsideTrying Anything g old new
 
 -- the tables are ours, as far as the disk shows them
 abbrev pub HasOurTables : State → Type 0
 HasOurTables s = HasCleanDisk s → IsTrue s.is_open → IsTyped s.now
 
 -- a call over such tables, in one transaction, tells of the store for no other cause
-pub record EndsForCause {S T E : Type 0} (g : Ghosts S) (IsTold : E → Type 0) (Beside : Type 0)
-    (old new : Held S) (result : Result T E) : Type 0 where
+pub record EndsForCauseTrying (tries : Tries) {S T E : Type 0} (g : Ghosts S)
+    (IsTold : E → Type 0) (Beside : Type 0) (old new : Held S) (result : Result T E)
+    : Type 0 where
   pub limit : (state g new).step_limit ≡ (state g old).step_limit
   pub cause : HasOurTables (state g old) → HasCleanDisk (state g new)
       → IfErr result (λ fault. IsTold fault → IsCaused (state g old) (state g new)
-      ⊎ (Beside ⊎ FailsInside g old new))
+      ⊎ (Beside ⊎ FailsInsideTrying tries g old new))
+
+abbrev pub EndsForCause : {S T E : Type 0} → Ghosts S → (E → Type 0) → Type 0 → Held S → Held S
+    → Result T E → Type 0
+EndsForCause g IsTold Beside old new result =
+    EndsForCauseTrying Anything g IsTold Beside old new result
 
 -- so does one that tells its error, which isn't want of memory
+abbrev pub TransactionEndsForCauseTrying : Tries → {S T : Type 0} → Ghosts S → Type 0 → Held S
+    → Held S → Result T Error → Type 0
+TransactionEndsForCauseTrying tries g Beside old new result =
+    EndsForCauseTrying tries g (λ e. IsFalse (is_out_of_memory e)) Beside old new result
+
 abbrev pub TransactionEndsForCause : {S T : Type 0} → Ghosts S → Type 0 → Held S → Held S
     → Result T Error → Type 0
 TransactionEndsForCause g Beside old new result =
-    EndsForCause g (λ e. IsFalse (is_out_of_memory e)) Beside old new result
+    TransactionEndsForCauseTrying Anything g Beside old new result

@@ -5,10 +5,12 @@ ghost use Rattle.std.specs.Prelude.{◌≡◌, IsFalse};
 ghost use Rattle.std.specs.List.{list_all};
 ghost use Rattle.lab_people_access.specs.declared.sessions.Closing.TheVariants.{All, Others};
 ghost use Rattle.lab_store_tables.specs.Changes.{InTurn};
-ghost use Rattle.lab_store_write.specs.Calls.{AnswersCall, Writes, WritesUnless, Becomes, Finds, MadeFrom};
+ghost use Rattle.lab_store_write.specs.Calls.{AnswersTrying, WritesTrying, WritesUnlessTrying, Becomes, Finds, MadeFrom};
 ghost use Rattle.lab_store_write.specs.Causes.{shows_id};
 ghost use Rattle.lab_store_write.specs.Givers.{Knows};
 ghost use Rattle.lab_store_write.specs.Closings.{close_one, close_of, ClosesRow, ClosesOf, opened_shown};
+ghost use Rattle.lab_store_write.specs.Statements.{asking_sessions, asking_others, closing_session};
+ghost use Rattle.lab_store_write.specs.Tried.{Only, TriedFrom, TriesToCloseRows, TriesToClose, TriesToCloseOf};
 
 use crate::statements::run;
 use crate::values::{id_value, ordinal_value};
@@ -19,7 +21,8 @@ use sqlite::{Error, Row};
 
 // Closes the session.
 fn close_session<W: Writable>(tx: &mut W, session: RowId) -> Result<usize, Error>
-    ensures { Writes W.lender W.state (Becomes (close_one session.id)) tx.old tx.new result }
+    ensures { WritesTrying (Only (closing_session session.id)) W.lender W.state
+        (Becomes (close_one session.id)) tx.old tx.new result }
 {
     run(
         tx,
@@ -30,8 +33,9 @@ fn close_session<W: Writable>(tx: &mut W, session: RowId) -> Result<usize, Error
 
 // Closes the sessions whose ids the rows show, one after the other.
 fn close_rows<W: Writable>(tx: &mut W, rows: &[Row]) -> Result<(), Error>
-    ensures { WritesUnless (λ _. IsFalse (list_all shows_id rows.now)) W.lender W.state
-        (InTurn ClosesRow rows.now) tx.old tx.new result }
+    ensures { WritesUnlessTrying (λ _. IsFalse (list_all shows_id rows.now))
+        (TriesToCloseRows rows.now) W.lender W.state (InTurn ClosesRow rows.now)
+        tx.old tx.new result }
 {
     for row in rows {
         let session = id_of(row)?;
@@ -42,7 +46,7 @@ fn close_rows<W: Writable>(tx: &mut W, rows: &[Row]) -> Result<(), Error>
 
 // The open sessions of the person.
 fn all_rows<W: Writable>(tx: &mut W, person: RowId) -> Result<Vec<Row>, Error>
-    ensures { AnswersCall W.lender W.state
+    ensures { AnswersTrying (Only (asking_sessions person.id)) W.lender W.state
         (λ rows. Finds (λ t. rows.items ≡ opened_shown person.id All t)) tx.old tx.new result }
 {
     tx.query_all(
@@ -53,7 +57,7 @@ fn all_rows<W: Writable>(tx: &mut W, person: RowId) -> Result<Vec<Row>, Error>
 
 // The open sessions of the person, except the one with the number.
 fn other_rows<W: Writable>(tx: &mut W, person: RowId, kept: Ordinal) -> Result<Vec<Row>, Error>
-    ensures { AnswersCall W.lender W.state
+    ensures { AnswersTrying (Only (asking_others person.id kept)) W.lender W.state
         (λ rows. Finds (λ t. rows.items ≡ opened_shown person.id (Others kept) t))
         tx.old tx.new result }
 {
@@ -65,7 +69,8 @@ fn other_rows<W: Writable>(tx: &mut W, person: RowId, kept: Ordinal) -> Result<V
 
 // Closes all sessions of the person.
 fn close_all<W: Writable>(tx: &mut W, person: RowId) -> Result<(), Error>
-    ensures { Writes W.lender W.state (Becomes (close_of person.id All)) tx.old tx.new result }
+    ensures { WritesTrying (TriesToClose person.id All) W.lender W.state
+        (Becomes (close_of person.id All)) tx.old tx.new result }
 {
     let rows = all_rows(tx, person)?;
     close_rows(tx, &rows)?;
@@ -74,8 +79,8 @@ fn close_all<W: Writable>(tx: &mut W, person: RowId) -> Result<(), Error>
 
 // Closes all sessions of the person, except the one with the number.
 fn close_others<W: Writable>(tx: &mut W, person: RowId, kept: Ordinal) -> Result<(), Error>
-    ensures { Writes W.lender W.state (Becomes (close_of person.id (Others kept)))
-        tx.old tx.new result }
+    ensures { WritesTrying (TriesToClose person.id (Others kept)) W.lender W.state
+        (Becomes (close_of person.id (Others kept))) tx.old tx.new result }
 {
     let rows = other_rows(tx, person, kept)?;
     close_rows(tx, &rows)?;
@@ -84,7 +89,8 @@ fn close_others<W: Writable>(tx: &mut W, person: RowId, kept: Ordinal) -> Result
 
 // Closes the sessions of the person that the change names.
 fn close_meant<W: Writable>(tx: &mut W, person: RowId, closing: Closing) -> Result<(), Error>
-    ensures { Writes W.lender W.state (Becomes (close_of person.id closing)) tx.old tx.new result }
+    ensures { WritesTrying (TriesToClose person.id closing) W.lender W.state
+        (Becomes (close_of person.id closing)) tx.old tx.new result }
 {
     match closing {
         Closing::Nothing => Ok(()),
@@ -104,7 +110,9 @@ pub fn close_sessions<W: Writable>(
     code: &PersonCode,
     closing: Closing,
 ) -> Result<(), Error>
-    ensures { Writes W.lender W.state
+    ensures { WritesTrying
+        (TriedFrom (Knows lab.id giver.entry) (TriesToCloseOf lab.id code.now closing))
+        W.lender W.state
         (MadeFrom (Knows lab.id giver.entry) (ClosesOf lab.id code.now closing))
         tx.old tx.new result }
 {

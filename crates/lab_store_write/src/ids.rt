@@ -5,7 +5,8 @@ ghost use Rattle.sqlite.specs.State.{HasCleanDisk, ExecutesInside};
 ghost use Rattle.sqlite.specs.Values.{bound};
 ghost use Rattle.lab_store_tables.specs.Held.{IsTyped};
 ghost use Rattle.lab_store_write.specs.Calls.{Stays};
-ghost use Rattle.lab_store_write.specs.Causes.{is_writing, FailsBy, IsOurs};
+ghost use Rattle.lab_store_write.specs.Causes.{is_writing, statement, FailsTrying, IsOurs};
+ghost use Rattle.lab_store_write.specs.Tried.{Only};
 
 use crate::statements::{RowId, run};
 use crate::writable::Writable;
@@ -24,7 +25,8 @@ pub fn insert<W: Writable>(tx: &mut W, text: &str, params: &[ValueRef<'_>]) -> R
         × (one.id ≡ (W.state tx.new).last_rowid)) }
     ensures failed { IsOurs is_writing text.now (bound params.now) →
         IsTrue (W.state tx.old).in_transaction → HasCleanDisk (W.state tx.new) →
-        IsTyped (W.state tx.old).now → IfErr result (FailsBy W.state tx.old tx.new) }
+        IsTyped (W.state tx.old).now → IfErr result
+        (FailsTrying (Only (statement text.now (bound params.now))) W.state tx.old tx.new) }
 {
     run(tx, text, params)?;
     Ok(RowId {

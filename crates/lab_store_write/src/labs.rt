@@ -2,8 +2,10 @@
 
 ghost use Rattle.lab_records_kept.specs.declared.changes.Change.TheVariants.{Last, Strays};
 ghost use Rattle.lab_store_tables.specs.Changes.{AppliesIn};
-ghost use Rattle.lab_store_write.specs.Calls.{Writes, WritesUnless};
+ghost use Rattle.lab_store_write.specs.Calls.{WritesTrying, WritesUnlessTrying};
 ghost use Rattle.lab_store_write.specs.Causes.{IsTooGreat};
+ghost use Rattle.lab_store_write.specs.Statements.{setting_last, setting_strays};
+ghost use Rattle.lab_store_write.specs.Tried.{Only};
 
 use crate::statements::{RowId, run};
 use crate::values::{count_value, id_value, moment_value};
@@ -16,7 +18,8 @@ use sqlite::Error;
 /// # Errors
 /// The store failed, or memory ran out.
 pub fn set_last<W: Writable>(tx: &mut W, lab: RowId, moment: Moment) -> Result<usize, Error>
-    ensures { Writes W.lender W.state (AppliesIn lab.id (Last moment)) tx.old tx.new result }
+    ensures { WritesTrying (Only (setting_last lab.id moment)) W.lender W.state
+        (AppliesIn lab.id (Last moment)) tx.old tx.new result }
 {
     run(
         tx,
@@ -30,8 +33,8 @@ pub fn set_last<W: Writable>(tx: &mut W, lab: RowId, moment: Moment) -> Result<u
 /// # Errors
 /// The errors of `Writable`, or the number is too great for the store.
 pub fn set_strays<W: Writable>(tx: &mut W, lab: RowId, count: u64) -> Result<usize, Error>
-    ensures { WritesUnless (λ _. IsTooGreat count) W.lender W.state
-        (AppliesIn lab.id (Strays count)) tx.old tx.new result }
+    ensures { WritesUnlessTrying (λ _. IsTooGreat count) (Only (setting_strays lab.id count))
+        W.lender W.state (AppliesIn lab.id (Strays count)) tx.old tx.new result }
 {
     let strays = count_value(count)?;
     run(

@@ -3,11 +3,13 @@
 ghost use Rattle.std.specs.Prelude.{◌≡◌, Some, option_map, slice_get, IfOk, IfErr, IfSome, IsSomeAnd};
 ghost use Rattle.sqlite.specs.State.{HasCleanDisk};
 ghost use Rattle.lab_store_tables.specs.Changes.{person_named, IsNamedIfAny};
-ghost use Rattle.lab_store_write.specs.Calls.{AnswersCall, Finds};
+ghost use Rattle.lab_store_write.specs.Calls.{AnswersTrying, Finds};
 ghost use Rattle.lab_store_write.specs.Causes.{IsShown, IsUnread, IsUnnamed};
 ghost use Rattle.lab_store_write.specs.Givers.{Knows};
 ghost use Rattle.lab_store_write.specs.Ids.{row_id, id_read};
 ghost use Rattle.lab_store_write.specs.Shown.{persons_shown};
+ghost use Rattle.lab_store_write.specs.Statements.{asking_person};
+ghost use Rattle.lab_store_write.specs.Tried.{Only, TriesIfAny};
 
 use crate::statements::RowId;
 use crate::values::{id_value, text_value};
@@ -43,10 +45,10 @@ pub fn first_id(rows: &[Row]) -> Result<RowId, Error>
 
 // The rows of the person with the code, in the laboratory.
 fn person_rows<W: Writable>(tx: &mut W, lab: RowId, code: &str) -> Result<Vec<Row>, Error>
-    ensures found { AnswersCall W.lender W.state
+    ensures found { AnswersTrying (Only (asking_person lab.id code.now)) W.lender W.state
         (λ rows. Finds (λ t. rows.items ≡ persons_shown lab.id code.now t)) tx.old tx.new result }
-    ensures shown { HasCleanDisk (W.state tx.new) →
-        IfOk result (λ rows. IsShown (W.state tx.old) (W.state tx.new) rows.items) }
+    ensures shown { HasCleanDisk (W.state tx.new) → IfOk result (λ rows.
+        IsShown (asking_person lab.id code.now) (W.state tx.old) (W.state tx.new) rows.items) }
 {
     tx.query_all(
         "SELECT id FROM persons WHERE lab = ?1 AND code = ?2 ORDER BY id",
@@ -59,7 +61,7 @@ fn person_rows<W: Writable>(tx: &mut W, lab: RowId, code: &str) -> Result<Vec<Ro
 /// # Errors
 /// The errors of `Writable`, or no such row exists.
 pub fn person_id_at<W: Writable>(tx: &mut W, lab: RowId, code: &PersonCode) -> Result<RowId, Error>
-    ensures { AnswersCall W.lender W.state
+    ensures { AnswersTrying (Only (asking_person lab.id code.now)) W.lender W.state
         (λ one. Finds (λ t. person_named t lab.id code.now ≡ Some one.id)) tx.old tx.new result }
 {
     let rows = person_rows(tx, lab, code.as_str())?;
@@ -97,8 +99,9 @@ pub fn person_id_by<W: Writable>(
     giver: Option<Giver<'_>>,
     code: &PersonCode,
 ) -> Result<RowId, Error>
-    ensures { AnswersCall W.lender W.state (λ one. Finds (λ t.
-        Knows lab.id giver.entry t → person_named t lab.id code.now ≡ Some one.id))
+    ensures { AnswersTrying (Only (asking_person lab.id code.now)) W.lender W.state
+        (λ one. Finds (λ t. Knows lab.id giver.entry t →
+        person_named t lab.id code.now ≡ Some one.id))
         tx.old tx.new result }
 {
     match given_id(giver, code) {
@@ -118,8 +121,9 @@ pub(crate) fn person_if_any<W: Writable>(
     giver: Option<Giver<'_>>,
     code: &Option<PersonCode>,
 ) -> Result<Option<RowId>, Error>
-    ensures { AnswersCall W.lender W.state (λ one. Finds (λ t.
-        Knows lab.id giver.entry t → IsNamedIfAny t lab.id code.now (option_map row_id one)))
+    ensures { AnswersTrying (TriesIfAny lab.id code.now) W.lender W.state
+        (λ one. Finds (λ t. Knows lab.id giver.entry t →
+        IsNamedIfAny t lab.id code.now (option_map row_id one)))
         tx.old tx.new result }
 {
     match code {
@@ -140,8 +144,8 @@ pub fn giver_if_any<'a, W: Writable>(
     lab: RowId,
     code: &'a Option<PersonCode>,
 ) -> Result<Option<Giver<'a>>, Error>
-    ensures { AnswersCall W.lender W.state (λ giver. Finds (Knows lab.id giver))
-        tx.old tx.new result }
+    ensures { AnswersTrying (TriesIfAny lab.id code.now) W.lender W.state
+        (λ giver. Finds (Knows lab.id giver)) tx.old tx.new result }
 {
     match code {
         Some(code) => {

@@ -2,10 +2,12 @@
 
 ghost use Rattle.std.specs.Prelude.{option_map};
 ghost use Rattle.lab_store_tables.specs.Changes.{IsNamedIfAny, AddsPerson, SetsPerson, person_row_of, set_person as with_row};
-ghost use Rattle.lab_store_write.specs.Calls.{AnswersCall, Writes, Becomes, Finds, MadeFrom};
+ghost use Rattle.lab_store_write.specs.Calls.{AnswersTrying, WritesTrying, Becomes, Finds, MadeFrom};
 ghost use Rattle.lab_store_write.specs.Givers.{Knows};
 ghost use Rattle.lab_store_write.specs.Ids.{row_id};
 ghost use Rattle.lab_store_write.specs.Persons.{asker_in, with_person};
+ghost use Rattle.lab_store_write.specs.Statements.{adding_person, setting_person};
+ghost use Rattle.lab_store_write.specs.Tried.{Only, TriedFrom, TriesIfAny, TriesToAddPerson, TriesToSetPerson};
 
 use crate::passwords::{
     ask_cells, made_or_null, password_cells, roles_sum, rounds_or_null, salt_or_null,
@@ -23,7 +25,8 @@ fn asker_if_any<W: Writable>(
     giver: Option<Giver<'_>>,
     ask: &Option<Ask>,
 ) -> Result<Option<RowId>, Error>
-    ensures { AnswersCall W.lender W.state (λ one. Finds (λ t. Knows lab.id giver.entry t →
+    ensures { AnswersTrying (TriesIfAny lab.id (option_map asker_in ask.now)) W.lender W.state
+        (λ one. Finds (λ t. Knows lab.id giver.entry t →
         IsNamedIfAny t lab.id (option_map asker_in ask.now) (option_map row_id one)))
         tx.old tx.new result }
 {
@@ -43,7 +46,8 @@ fn insert_person<W: Writable>(
     asker: Option<RowId>,
     person: &Person,
 ) -> Result<usize, Error>
-    ensures { Writes W.lender W.state
+    ensures { WritesTrying (Only (adding_person lab.id (option_map row_id asker) person.now))
+        W.lender W.state
         (Becomes (with_person lab.id (option_map row_id asker) person.now)) tx.old tx.new result }
 {
     let code = person.code.as_str();
@@ -91,7 +95,9 @@ pub fn add_person<W: Writable>(
     giver: Option<Giver<'_>>,
     person: &Person,
 ) -> Result<(), Error>
-    ensures { Writes W.lender W.state
+    ensures { WritesTrying
+        (TriedFrom (Knows lab.id giver.entry) (TriesToAddPerson lab.id person.now))
+        W.lender W.state
         (MadeFrom (Knows lab.id giver.entry) (AddsPerson lab.id person.now)) tx.old tx.new result }
 {
     let asker = asker_if_any(tx, lab, giver, &person.ask)?;
@@ -107,7 +113,8 @@ fn update_person<W: Writable>(
     asker: Option<RowId>,
     person: &Person,
 ) -> Result<usize, Error>
-    ensures { Writes W.lender W.state
+    ensures { WritesTrying (Only (setting_person lab.id id.id (option_map row_id asker) person.now))
+        W.lender W.state
         (Becomes (with_row (person_row_of lab.id id.id (option_map row_id asker) person.now)))
         tx.old tx.new result }
 {
@@ -158,7 +165,9 @@ pub fn set_person<W: Writable>(
     giver: Option<Giver<'_>>,
     person: &Person,
 ) -> Result<(), Error>
-    ensures { Writes W.lender W.state
+    ensures { WritesTrying
+        (TriedFrom (Knows lab.id giver.entry) (TriesToSetPerson lab.id person.now))
+        W.lender W.state
         (MadeFrom (Knows lab.id giver.entry) (SetsPerson lab.id person.now)) tx.old tx.new result }
 {
     let id = person_id_by(tx, lab, giver, &person.code)?;

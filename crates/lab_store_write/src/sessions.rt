@@ -4,10 +4,12 @@ ghost use Rattle.std.specs.Prelude.{IfOk, IsTrue};
 ghost use Rattle.sqlite.specs.State.{HasCleanDisk};
 ghost use Rattle.lab_store_tables.specs.Rows.{LabRow};
 ghost use Rattle.lab_store_tables.specs.Changes.{in_lab, AddsSession, SetsSession};
-ghost use Rattle.lab_store_write.specs.Calls.{AnswersCall, Writes, Becomes, MadeFrom};
+ghost use Rattle.lab_store_write.specs.Calls.{AnswersTrying, WritesTrying, Becomes, MadeFrom};
 ghost use Rattle.lab_store_write.specs.Causes.{IsRun};
 ghost use Rattle.lab_store_write.specs.Givers.{Knows};
 ghost use Rattle.lab_store_write.specs.Added.{with_session, SetsIfAny};
+ghost use Rattle.lab_store_write.specs.Statements.{adding_session, counting_sessions, setting_session};
+ghost use Rattle.lab_store_write.specs.Tried.{Only, TriedFrom, TriesToAddSession, TriesToSetSession};
 
 use crate::statements::run;
 use crate::values::{blob_value, flag_value, id_value, moment_value, ordinal_value};
@@ -23,8 +25,8 @@ fn insert_session<W: Writable>(
     person: RowId,
     session: &Session,
 ) -> Result<usize, Error>
-    ensures { Writes W.lender W.state (Becomes (with_session lab.id person.id session.now))
-        tx.old tx.new result }
+    ensures { WritesTrying (Only (adding_session lab.id person.id session.now)) W.lender W.state
+        (Becomes (with_session lab.id person.id session.now)) tx.old tx.new result }
 {
     let token = session.token.bytes();
     run(
@@ -45,7 +47,7 @@ fn insert_session<W: Writable>(
 
 // Sets how many sessions the laboratory has.
 fn set_sessions<W: Writable>(tx: &mut W, lab: RowId, count: Ordinal) -> Result<usize, Error>
-    ensures { Writes W.lender W.state
+    ensures { WritesTrying (Only (counting_sessions lab.id count)) W.lender W.state
         (Becomes (in_lab lab.id (λ (one : LabRow). record one { sessions = count })))
         tx.old tx.new result }
 {
@@ -66,7 +68,9 @@ pub fn add_session<W: Writable>(
     giver: Option<Giver<'_>>,
     session: &Session,
 ) -> Result<(), Error>
-    ensures { Writes W.lender W.state
+    ensures { WritesTrying
+        (TriedFrom (Knows lab.id giver.entry) (TriesToAddSession lab.id session.now))
+        W.lender W.state
         (MadeFrom (Knows lab.id giver.entry) (AddsSession lab.id session.now))
         tx.old tx.new result }
 {
@@ -83,10 +87,11 @@ fn update_session<W: Writable>(
     person: RowId,
     session: &Session,
 ) -> Result<usize, Error>
-    ensures writes { AnswersCall W.lender W.state (SetsIfAny lab.id person.id session.now)
-        tx.old tx.new result }
+    ensures writes { AnswersTrying (Only (setting_session lab.id person.id session.now))
+        W.lender W.state (SetsIfAny lab.id person.id session.now) tx.old tx.new result }
     ensures ran { IsTrue (W.state tx.old).in_transaction → HasCleanDisk (W.state tx.new) →
-        IfOk result (IsRun (W.state tx.old) (W.state tx.new)) }
+        IfOk result (IsRun (setting_session lab.id person.id session.now)
+        (W.state tx.old) (W.state tx.new)) }
 {
     let token = session.token.bytes();
     run(
@@ -115,7 +120,9 @@ pub fn set_session<W: Writable>(
     giver: Option<Giver<'_>>,
     session: &Session,
 ) -> Result<(), Error>
-    ensures { Writes W.lender W.state
+    ensures { WritesTrying
+        (TriedFrom (Knows lab.id giver.entry) (TriesToSetSession lab.id session.now))
+        W.lender W.state
         (MadeFrom (Knows lab.id giver.entry) (SetsSession lab.id session.now))
         tx.old tx.new result }
 {

@@ -1,10 +1,12 @@
 //! Rows of the trail.
 
 ghost use Rattle.std.specs.Prelude.{option_map};
-ghost use Rattle.lab_store_write.specs.Calls.{Writes, Becomes, MadeFrom};
+ghost use Rattle.lab_store_write.specs.Calls.{WritesTrying, Becomes, MadeFrom};
 ghost use Rattle.lab_store_write.specs.Givers.{Knows};
 ghost use Rattle.lab_store_write.specs.Ids.{row_id};
 ghost use Rattle.lab_store_write.specs.TrailAdded.{with_told, with_count, AddsLastTold};
+ghost use Rattle.lab_store_write.specs.Statements.{adding_told, counting_trail};
+ghost use Rattle.lab_store_write.specs.Tried.{Only, TriedFrom, TriesToAddTold};
 
 use crate::named::{Giver, person_if_any};
 use crate::statements::{RowId, run};
@@ -21,7 +23,8 @@ fn insert_told<W: Writable>(
     person: Option<RowId>,
     told: &TrailRow,
 ) -> Result<usize, Error>
-    ensures { Writes W.lender W.state
+    ensures { WritesTrying (Only (adding_told lab.id (option_map row_id person) told.now))
+        W.lender W.state
         (Becomes (with_told lab.id (option_map row_id person) told.now)) tx.old tx.new result }
 {
     let action = told.action.word();
@@ -47,8 +50,8 @@ fn set_trail<W: Writable>(
     last: Option<Moment>,
     count: Ordinal,
 ) -> Result<usize, Error>
-    ensures { Writes W.lender W.state (Becomes (with_count lab.id last count))
-        tx.old tx.new result }
+    ensures { WritesTrying (Only (counting_trail lab.id last count)) W.lender W.state
+        (Becomes (with_count lab.id last count)) tx.old tx.new result }
 {
     match last {
         Some(moment) => run(
@@ -76,7 +79,9 @@ pub fn add_told<W: Writable>(
     last: Option<Moment>,
     told: &TrailRow,
 ) -> Result<(), Error>
-    ensures { Writes W.lender W.state
+    ensures { WritesTrying
+        (TriedFrom (Knows lab.id giver.entry) (TriesToAddTold lab.id last told.now))
+        W.lender W.state
         (MadeFrom (Knows lab.id giver.entry) (AddsLastTold lab.id last told.now))
         tx.old tx.new result }
 {

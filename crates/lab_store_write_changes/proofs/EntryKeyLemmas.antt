@@ -1,5 +1,5 @@
 -- Rows that are named by their keys, or by their parents: what each look-up means, and what it finds.
-use Rattle.std.proofs.Common.{◌≡◌, ℕ, ℤ, ◌&&◌, List, [], ◌∷◌, map, filter, codes, slice_get, Some, option_map, refl, sym, ap, ap₂, ◌∙◌, lit≤}
+use Rattle.std.proofs.Common.{◌≡◌, ℕ, ℤ, ◌&&◌, List, [], ◌∷◌, codes, slice_get, Some, option_map, refl, sym, ap, ap₂, ◌∙◌, lit≤}
 use Rattle.sqlite_value.specs.declared.value.Value.TheVariants.{Int}
 use Rattle.sqlite_value.specs.Order.{Row}
 use Rattle.sqlite_sql.specs.Program.{overlay}
@@ -7,7 +7,7 @@ use Rattle.sqlite_sql.specs.Term.{Term, col}
 use Rattle.sqlite_tied.specs.Compute.{everything}
 use Rattle.sqlite.specs.Listing.{understood}
 use Rattle.sqlite.specs.State.{State, Shown}
-use Rattle.lab_store_tables.specs.Rows.{RecordRow, EntryRow, SignatureRow, Tables, tables_in, record_id, entry_id, signature_id, number}
+use Rattle.lab_store_tables.specs.Rows.{RecordRow, EntryRow, SignatureRow, tables_in, record_id, entry_id, signature_id, number}
 use Rattle.lab_store_tables.proofs.RowWords.{record_row, entry_row, signature_row}
 use Rattle.lab_store_tables.specs.Changes.{is_record_row, record_named}
 use Rattle.lab_store_tables.specs.Held.{IsTyped}
@@ -23,11 +23,9 @@ use Rattle.lab_store_write.proofs.Ours.{ours}
 use Rattle.lab_store_write_changes.specs.VersionsShown.{records_shown, is_entry_of, is_signature_of}
 use Rattle.lab_store_write_changes.proofs.VersionsShownWords.{entries_shown, signatures_shown}
 use Rattle.lab_store_tables.proofs.Comparing.{equal_ints}
+pub use Rattle.lab_store_write_changes.specs.Statements.{record_text, entries_text, signatures_text}
 
 -- ---- a record
-
-abbrev pub record_text : List ℕ
-record_text = codes "SELECT id FROM records WHERE lab = ?1 AND number = ?2 ORDER BY id"
 
 abbrev record_tests : List Term
 record_tests = is_param 2 0 ∷ is_param 3 1 ∷ []
@@ -64,9 +62,6 @@ record_found lab given wanted shown rows id old new same slice it first =
 
 -- ---- the place behind the entries of one parent
 
-abbrev pub entries_text : List ℕ
-entries_text = codes "SELECT id FROM entries WHERE version = ?1 ORDER BY id"
-
 pub entries_means : Means entries_text (by_key_query 20 (is_param 2 0 ∷ []) (col 1 0 ∷ [])) (codes "id" ∷ [])
 unfolding understood everything
 entries_means = record { read = (_, refl); command = refl; unlisted = refl; plain = (refl, refl) }
@@ -85,9 +80,6 @@ entries_read old new parent rows typed h =
     (λ x. refl) old new typed.schema refl rows h
 
 -- ---- the place behind the signatures of one parent
-
-abbrev pub signatures_text : List ℕ
-signatures_text = codes "SELECT id FROM signatures WHERE version = ?1 ORDER BY id"
 
 pub signatures_means : Means signatures_text (by_key_query 22 (is_param 2 0 ∷ []) (col 1 0 ∷ [])) (codes "id" ∷ [])
 unfolding understood everything

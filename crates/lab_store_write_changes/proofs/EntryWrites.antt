@@ -1,5 +1,5 @@
 -- What each statement on entries and signatures means, and what it makes of the tables.
-use Rattle.std.proofs.Common.{◌≡◌, ℕ, List, codes, Ok}
+use Rattle.std.proofs.Common.{◌≡◌, ℕ, Ok}
 use Rattle.sqlite_value.specs.Order.{Row}
 use Rattle.sqlite_keyed.specs.Keyed.{next_key}
 use Rattle.sqlite.specs.State.{State, Executes}
@@ -11,11 +11,9 @@ use Rattle.lab_store_tables.proofs.FamilyWords.{values_of}
 use Rattle.lab_store_write.specs.Causes.{is_writing, IsOurs}
 use Rattle.lab_store_write.proofs.Inserts.{adds, adds_ours}
 use Rattle.lab_store_write.proofs.Inside.{Wrote}
+pub use Rattle.lab_store_write_changes.specs.Statements.{add_entry_text, add_signature_text}
 
 -- ---- a row more of entries
-
-abbrev pub add_entry_text : List ℕ
-add_entry_text = codes "INSERT INTO entries (version, place, key, value, unit, person, moment, reason) VALUES (?1, ?2, ?3, ?4, ?5, ?6, ?7, ?8)"
 
 -- the columns of the row but its ids
 abbrev pub entry_values : EntryRow → Row
@@ -30,9 +28,6 @@ pub add_entry_ours : (one : EntryRow) → IsOurs is_writing add_entry_text (entr
 add_entry_ours = adds_ours Entries
 
 -- ---- a row more of signatures
-
-abbrev pub add_signature_text : List ℕ
-add_signature_text = codes "INSERT INTO signatures (version, place, person, name, meaning, moment, reason, digest, seal) VALUES (?1, ?2, ?3, ?4, ?5, ?6, ?7, ?8, ?9)"
 
 -- the columns of the row but its ids
 abbrev pub signature_values : SignatureRow → Row

@@ -1,5 +1,5 @@
 -- Rows that are named by their parents: what each look-up means, and what it finds.
-use Rattle.std.proofs.Common.{◌≡◌, ℕ, ℤ, List, [], ◌∷◌, codes, refl, ◌∙◌, lit≤}
+use Rattle.std.proofs.Common.{◌≡◌, ℤ, List, [], ◌∷◌, codes, refl, ◌∙◌, lit≤}
 use Rattle.sqlite_value.specs.declared.value.Value.TheVariants.{Int}
 use Rattle.sqlite_value.specs.Order.{Row}
 use Rattle.sqlite_sql.specs.Program.{overlay}
@@ -19,11 +19,9 @@ use Rattle.lab_store_write.proofs.Ours.{ours}
 use Rattle.lab_store_write_changes.specs.FieldsShown.{is_field_of, is_choice_of}
 use Rattle.lab_store_write_changes.proofs.FieldsShownWords.{fields_shown, choices_shown}
 use Rattle.lab_store_tables.proofs.Comparing.{equal_ints}
+pub use Rattle.lab_store_write_changes.specs.Statements.{fields_text, choices_text}
 
 -- ---- the place behind the fields of one parent
-
-abbrev pub fields_text : List ℕ
-fields_text = codes "SELECT id FROM fields WHERE form = ?1 ORDER BY id"
 
 pub fields_means : Means fields_text (by_key_query 10 (is_param 2 0 ∷ []) (col 1 0 ∷ [])) (codes "id" ∷ [])
 unfolding understood everything
@@ -43,9 +41,6 @@ fields_read old new parent rows typed h =
     (λ x. refl) old new typed.schema refl rows h
 
 -- ---- the place behind the choices of one parent
-
-abbrev pub choices_text : List ℕ
-choices_text = codes "SELECT id FROM choices WHERE field = ?1 ORDER BY id"
 
 pub choices_means : Means choices_text (by_key_query 13 (is_param 2 0 ∷ []) (col 1 0 ∷ [])) (codes "id" ∷ [])
 unfolding understood everything

@@ -1,5 +1,5 @@
 -- What each statement on forms means, and what it makes of the tables.
-use Rattle.std.proofs.Common.{◌≡◌, ℕ, List, codes, Ok}
+use Rattle.std.proofs.Common.{◌≡◌, ℕ, Ok}
 use Rattle.sqlite_value.specs.Order.{Row}
 use Rattle.sqlite_keyed.specs.Keyed.{next_key}
 use Rattle.sqlite.specs.State.{State, Executes}
@@ -11,11 +11,9 @@ use Rattle.lab_store_tables.proofs.FamilyWords.{values_of}
 use Rattle.lab_store_write.specs.Causes.{is_writing, IsOurs}
 use Rattle.lab_store_write.proofs.Inserts.{adds, adds_ours, ids}
 use Rattle.lab_store_write.proofs.Inside.{Wrote}
+pub use Rattle.lab_store_write_changes.specs.Statements.{add_form_text, add_field_text, add_choice_text}
 
 -- ---- a row more of forms
-
-abbrev pub add_form_text : List ℕ
-add_form_text = codes "INSERT INTO forms (lab, code, version, approval) VALUES (?1, ?2, ?3, ?4)"
 
 -- the columns of the row but its ids
 abbrev pub form_values : FormRow → Row
@@ -36,9 +34,6 @@ ids_form = ids Forms
 
 -- ---- a row more of fields
 
-abbrev pub add_field_text : List ℕ
-add_field_text = codes "INSERT INTO fields (form, place, key, label, required, kind, unit, decimals, low, high, size) VALUES (?1, ?2, ?3, ?4, ?5, ?6, ?7, ?8, ?9, ?10, ?11)"
-
 -- the columns of the row but its ids
 abbrev pub field_values : FieldRow → Row
 field_values = values_of Fields
@@ -57,9 +52,6 @@ pub ids_field : (one : FieldRow) (old new : State) (count : ℕ) → IsTyped old
 ids_field = ids Fields
 
 -- ---- a row more of choices
-
-abbrev pub add_choice_text : List ℕ
-add_choice_text = codes "INSERT INTO choices (field, place, name) VALUES (?1, ?2, ?3)"
 
 -- the columns of the row but its ids
 abbrev pub choice_values : ChoiceRow → Row

@@ -22,6 +22,7 @@ pub mod Leaving
 pub mod RecordKeyLemmas
 pub mod RecordWrites
 pub mod RecordsInTurn
+pub mod Trying
 pub mod Unversioned
 pub mod VersionKeyLemmas
 pub mod VersionsShownWords

@@ -22,13 +22,11 @@ use Rattle.lab_store_write.proofs.Lookups.{by_key_query, rows_by_key, first_key}
 use Rattle.lab_store_write.proofs.Ours.{ours}
 use Rattle.lab_store_write_changes.specs.FormsShown.{forms_shown}
 use Rattle.lab_store_tables.proofs.Comparing.{equal_ints, equal_texts}
+pub use Rattle.lab_store_write_changes.specs.Statements.{form_text}
 
 and_moved : (a b c : Bool) → (a && (b && c)) ≡ (a && b && c)
 and_moved true b c = refl
 and_moved false b c = refl
-
-abbrev pub form_text : List ℕ
-form_text = codes "SELECT id FROM forms WHERE lab = ?1 AND code = ?2 AND version = ?3 ORDER BY id"
 
 abbrev form_tests : List Term
 form_tests = is_param 2 0 ∷ is_param 3 1 ∷ is_param 4 2 ∷ []

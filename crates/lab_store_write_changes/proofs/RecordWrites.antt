@@ -16,11 +16,9 @@ use Rattle.lab_store_write.proofs.Inserts.{adds, adds_ours, ids}
 use Rattle.lab_store_write.proofs.Updates.{IsUpdate, given, by_id, sets}
 use Rattle.lab_store_write.proofs.Inside.{Wrote}
 use Rattle.lab_store_write.proofs.Ours.{ours}
+pub use Rattle.lab_store_write_changes.specs.Statements.{add_record_text, add_version_text}
 
 -- ---- a row more of records
-
-abbrev pub add_record_text : List ℕ
-add_record_text = codes "INSERT INTO records (lab, number, form, form_code, sample, current) VALUES (?1, ?2, ?3, ?4, ?5, ?6)"
 
 -- the columns of the row but its ids
 abbrev pub record_values : RecordRow → Row
@@ -59,9 +57,6 @@ sets_current id version =
     sets Records (given 1 (codes "current" ∷ [])) current_text current_is id (number version ∷ []) (λ (one : RecordRow). record one { current = version }) (λ _. refl) (λ _. refl)
 
 -- ---- a row more of versions
-
-abbrev pub add_version_text : List ℕ
-add_version_text = codes "INSERT INTO versions (record, number, format, opener, opened, reason) VALUES (?1, ?2, ?3, ?4, ?5, ?6)"
 
 -- the columns of the row but its ids
 abbrev pub version_values : VersionRow → Row

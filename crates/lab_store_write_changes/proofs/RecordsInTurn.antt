@@ -81,7 +81,7 @@ record_added lab giver kept form id a b c d e p q r s = record {
 }
 
 -- the row that an id was read of
-row_of_id : (o : Option RecordRow) (id : ℤ) → option_map record_id o ≡ Some id → (kept : RecordRow) × (o ≡ Some kept) × (kept.id ≡ id)
+pub row_of_id : (o : Option RecordRow) (id : ℤ) → option_map record_id o ≡ Some id → (kept : RecordRow) × (o ≡ Some kept) × (kept.id ≡ id)
 row_of_id None id h = absurd cc
 row_of_id (Some kept) id h = let same : kept.id ≡ id = cc in (kept, refl, same)
 

@@ -39,6 +39,7 @@ use Rattle.lab_store_write.proofs.Inside.{steps_weaker}
 use Rattle.lab_store_write.proofs.Ours.{ours}
 use Rattle.lab_store_write_changes.specs.VersionsShown.{current_of, version_in_record, ids_or_null, versions_shown, first_value}
 use Rattle.lab_store_tables.proofs.Comparing.{equal_ints}
+pub use Rattle.lab_store_write_changes.specs.Statements.{current_text, version_text}
 
 -- ---- rows beside others, in the order of both
 
@@ -194,9 +195,6 @@ module _ (sql : List ℕ) (on : List Term) (means : Means sql (beside_query on) 
       (is_record_row lab wanted) (λ x. is_version_row x.id (which x))
       (λ x r. ap₂ ◌&&◌ (equal_ints x.lab lab) (and_true _ ∙ equal_numbers x.number wanted)) leads rows (read.answer Null)
 
-abbrev pub current_text : List ℕ
-current_text = codes "SELECT versions.id FROM records LEFT JOIN versions ON versions.record = records.id AND versions.number = records.current WHERE records.lab = ?1 AND records.number = ?2 ORDER BY records.id, versions.id"
-
 abbrev current_tests : List Term
 current_tests = op2 (Compare Eq Binary) (col 2 2) (col 1 0) ∷ op2 (Compare Eq Binary) (col 2 3) (col 1 7) ∷ []
 
@@ -213,9 +211,6 @@ pub current_read : (old new : State) (lab : ℤ) (wanted : ℕ) (rows : List Row
 current_read old new lab wanted =
     versions_read current_text current_tests current_means current_of lab wanted []
     (λ x y. ap₂ ◌&&◌ (equal_ints y.kept x.id) (and_true _ ∙ equal_numbers y.number x.current)) old new
-
-abbrev pub version_text : List ℕ
-version_text = codes "SELECT versions.id FROM records LEFT JOIN versions ON versions.record = records.id AND versions.number = ?3 WHERE records.lab = ?1 AND records.number = ?2 ORDER BY records.id, versions.id"
 
 abbrev version_tests : List Term
 version_tests = op2 (Compare Eq Binary) (col 2 2) (col 1 0) ∷ op2 (Compare Eq Binary) (col 2 3) (col 0 2) ∷ []

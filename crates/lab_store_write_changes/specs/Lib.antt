@@ -7,5 +7,7 @@ pub mod Framed
 pub mod NewbornRows
 pub mod Newborns
 pub mod RecordsAdded
+pub mod Statements
 pub mod Texts
+pub mod Tried
 pub mod VersionsShown

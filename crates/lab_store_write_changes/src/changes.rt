@@ -8,10 +8,12 @@ ghost use Rattle.lab_records_kept.specs.declared.changes.Change.TheVariants.{Las
 ghost use Rattle.lab_store_tables.specs.Changes.{AppliesIn, InTurn};
 ghost use Rattle.lab_store_tables.specs.Held.{IsTyped};
 ghost use Rattle.lab_store_tables.specs.Steps.{AppliesWhereKept, StepsBy};
-ghost use Rattle.lab_store_write.specs.Calls.{Stays, Steps, Writes, WritesUnless, FailsFor, MadeFrom};
+ghost use Rattle.lab_store_write.specs.Calls.{Stays, Steps, WritesTrying, WritesUnlessTrying, FailsForTrying, MadeFrom};
 ghost use Rattle.lab_store_write.specs.Givers.{Knows};
+ghost use Rattle.lab_store_write.specs.Tried.{TriedFrom};
 ghost use Rattle.lab_store_write_changes.specs.Causes.{IsTooMuch, OneIsTooMuch};
 ghost use Rattle.lab_store_write_changes.specs.Framed.{spares_last, keeps_giver, StepsKnowing, framed};
+ghost use Rattle.lab_store_write_changes.specs.Tried.{TriesIn, TriesEach, TriesFramed, TriesAll};
 
 use crate::framed::frame_of;
 use crate::{add_form, add_record, enter_row, open_version, sign_version};
@@ -25,7 +27,8 @@ use sqlite::Error;
 
 // Sets the last moment.
 fn change_last<W: Writable>(tx: &mut W, lab: RowId, moment: Moment) -> Result<(), Error>
-    ensures { Writes W.lender W.state (AppliesIn lab.id (Last moment)) tx.old tx.new result }
+    ensures { WritesTrying (TriesIn lab.id (Last moment)) W.lender W.state
+        (AppliesIn lab.id (Last moment)) tx.old tx.new result }
 {
     set_last(tx, lab, moment)?;
     Ok(())
@@ -33,8 +36,8 @@ fn change_last<W: Writable>(tx: &mut W, lab: RowId, moment: Moment) -> Result<()
 
 // Sets how many passwords were given for no person's account.
 fn change_strays<W: Writable>(tx: &mut W, lab: RowId, count: u64) -> Result<(), Error>
-    ensures { WritesUnless (λ _. IsTooMuch (Strays count)) W.lender W.state
-        (AppliesIn lab.id (Strays count)) tx.old tx.new result }
+    ensures { WritesUnlessTrying (λ _. IsTooMuch (Strays count)) (TriesIn lab.id (Strays count))
+        W.lender W.state (AppliesIn lab.id (Strays count)) tx.old tx.new result }
 {
     set_strays(tx, lab, count)?;
     Ok(())
@@ -48,7 +51,9 @@ fn change_sessions<W: Writable>(
     person: &PersonCode,
     closing: Closing,
 ) -> Result<(), Error>
-    ensures { Writes W.lender W.state (MadeFrom (Knows lab.id giver.entry)
+    ensures { WritesTrying
+        (TriedFrom (Knows lab.id giver.entry) (TriesIn lab.id (SessionsClosed person.now closing)))
+        W.lender W.state (MadeFrom (Knows lab.id giver.entry)
         (AppliesWhereKept lab.id (SessionsClosed person.now closing))) tx.old tx.new result }
 {
     close_sessions(tx, lab, giver, person, closing)
@@ -61,7 +66,8 @@ fn change_rows<W: Writable>(
     giver: Option<Giver<'_>>,
     change: &Change,
 ) -> Result<(), Error>
-    ensures { WritesUnless (λ _. IsTooMuch change.now) W.lender W.state
+    ensures { WritesUnlessTrying (λ _. IsTooMuch change.now)
+        (TriedFrom (Knows lab.id giver.entry) (TriesIn lab.id change.now)) W.lender W.state
         (MadeFrom (Knows lab.id giver.entry) (AppliesWhereKept lab.id change.now))
         tx.old tx.new result }
 {
@@ -107,7 +113,10 @@ fn each_inside<W: Writable>(
         Steps (StepsKnowing lab.id giver.entry changes.now) (W.state tx.old) (W.state tx.new)) }
     ensures typed { IsTrue (W.state tx.old).in_transaction → HasCleanDisk (W.state tx.new) →
         OnOk result (IsTyped (W.state tx.old).now → IsTyped (W.state tx.new).now) }
-    ensures failed { FailsFor (λ _. OneIsTooMuch changes.now) W.state tx.old tx.new result }
+    ensures failed { IsTrue (keeps_giver giver.entry changes.now) →
+        IsDatabase (W.state tx.old).now → FailsForTrying (λ _. OneIsTooMuch changes.now)
+        (TriedFrom (Knows lab.id giver.entry) (TriesEach lab.id changes.now))
+        W.state tx.old tx.new result }
 {
     for change in changes {
         change_rows(tx, lab, giver, change)?;
@@ -133,7 +142,9 @@ fn framed_inside<W: Writable>(
         OnOk result (IsDatabase (W.state tx.old).now →
         Steps (InTurn (StepsBy lab.id) (framed moment between.now told.now))
         (W.state tx.old) (W.state tx.new)) }
-    ensures failed { FailsFor (λ _. OneIsTooMuch between.now) W.state tx.old tx.new result }
+    ensures failed { IsTrue (list_all spares_last between.now) →
+        IsDatabase (W.state tx.old).now → FailsForTrying (λ _. OneIsTooMuch between.now)
+        (TriesFramed lab.id moment between.now told.now) W.state tx.old tx.new result }
 {
     let giver = giver_if_any(tx, lab, &told.person)?;
     each_inside(tx, lab, giver, between)?;
@@ -152,7 +163,9 @@ pub fn all_inside<W: Writable>(tx: &mut W, lab: RowId, changes: &[Change]) -> Re
     ensures made { IsTrue (W.state tx.old).in_transaction → HasCleanDisk (W.state tx.new) →
         OnOk result (IsDatabase (W.state tx.old).now →
         Steps (InTurn (StepsBy lab.id) changes.now) (W.state tx.old) (W.state tx.new)) }
-    ensures failed { FailsFor (λ _. OneIsTooMuch changes.now) W.state tx.old tx.new result }
+    ensures failed { IsDatabase (W.state tx.old).now →
+        FailsForTrying (λ _. OneIsTooMuch changes.now) (TriesAll lab.id changes.now)
+        W.state tx.old tx.new result }
 {
     match frame_of(changes) {
         Some(some) => framed_inside(tx, lab, some.moment, some.between, some.told),

@@ -1,11 +1,15 @@
 //! The entries of a version, each added after those that the version has.
 
+ghost use Rattle.std.specs.Prelude.{pos};
 ghost use Rattle.lab_records_kept.specs.declared.changes.Change.TheVariants.{RowAdded};
 ghost use Rattle.lab_store_tables.specs.Changes.{AppliesIn, AddsEntry};
-ghost use Rattle.lab_store_write.specs.Calls.{Writes, Becomes, MadeFrom};
+ghost use Rattle.lab_store_write.specs.Calls.{WritesTrying, Becomes, MadeFrom};
 ghost use Rattle.lab_store_write.specs.Causes.{IsTooGreat};
 ghost use Rattle.lab_store_write.specs.Givers.{Knows};
-ghost use Rattle.lab_store_write_changes.specs.EntriesAdded.{with_entry};
+ghost use Rattle.lab_store_write.specs.Tried.{Only, TriedFrom};
+ghost use Rattle.lab_store_write_changes.specs.EntriesAdded.{entry_at, with_entry};
+ghost use Rattle.lab_store_write_changes.specs.Statements.{adding_entry};
+ghost use Rattle.lab_store_write_changes.specs.Tried.{TriesToAddEntry, TriesIn};
 
 use crate::named::current_version_at;
 use crate::places::entry_place;
@@ -26,7 +30,9 @@ fn insert_entry<W: Writable>(
     entry: &EntryRow,
 ) -> Result<usize, Error>
     requires { ¬ IsTooGreat place }
-    ensures { Writes W.lender W.state (Becomes (with_entry version.id place person.id entry.now))
+    ensures { WritesTrying
+        (Only (adding_entry (entry_at version.id (pos 0) place person.id entry.now)))
+        W.lender W.state (Becomes (with_entry version.id place person.id entry.now))
         tx.old tx.new result }
 {
     let key = entry.key.as_str();
@@ -59,7 +65,9 @@ pub(crate) fn add_entry<W: Writable>(
     version: RowId,
     entry: &EntryRow,
 ) -> Result<(), Error>
-    ensures { Writes W.lender W.state
+    ensures { WritesTrying
+        (TriedFrom (Knows lab.id giver.entry) (TriesToAddEntry lab.id version.id entry.now))
+        W.lender W.state
         (MadeFrom (Knows lab.id giver.entry) (AddsEntry lab.id version.id entry.now))
         tx.old tx.new result }
 {
@@ -80,7 +88,9 @@ pub fn enter_row<W: Writable>(
     wanted: Ordinal,
     entry: &EntryRow,
 ) -> Result<(), Error>
-    ensures { Writes W.lender W.state
+    ensures { WritesTrying
+        (TriedFrom (Knows lab.id giver.entry) (TriesIn lab.id (RowAdded wanted entry.now)))
+        W.lender W.state
         (MadeFrom (Knows lab.id giver.entry) (AppliesIn lab.id (RowAdded wanted entry.now)))
         tx.old tx.new result }
 {

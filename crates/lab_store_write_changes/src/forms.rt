@@ -1,14 +1,17 @@
 //! Versions of forms, each with its fields and their choices.
 
-ghost use Rattle.std.specs.Prelude.{◌≡◌};
+ghost use Rattle.std.specs.Prelude.{◌≡◌, pos};
 ghost use Rattle.sqlite_keyed.specs.Keyed.{next_key};
 ghost use Rattle.lab_records_kept.specs.declared.changes.Change.TheVariants.{FormAdded};
 ghost use Rattle.lab_store_tables.specs.Rows.{form_id, field_id};
 ghost use Rattle.lab_store_tables.specs.Columns.{kind_names};
-ghost use Rattle.lab_store_tables.specs.Changes.{AppliesIn, InTurn, AddsChoice, AddsField};
-ghost use Rattle.lab_store_write.specs.Calls.{AnswersCall, Writes, Becomes};
+ghost use Rattle.lab_store_tables.specs.Changes.{AppliesIn, InTurn, AddsChoice, AddsField, form_row_of};
+ghost use Rattle.lab_store_write.specs.Calls.{AnswersTrying, WritesTrying, Becomes};
 ghost use Rattle.lab_store_write.specs.Causes.{IsTooGreat};
-ghost use Rattle.lab_store_write_changes.specs.FormsAdded.{with_choice, with_field, with_form};
+ghost use Rattle.lab_store_write.specs.Tried.{Only};
+ghost use Rattle.lab_store_write_changes.specs.FormsAdded.{choice_at, with_choice, field_at, with_field, with_form};
+ghost use Rattle.lab_store_write_changes.specs.Statements.{adding_choice, adding_field, adding_form};
+ghost use Rattle.lab_store_write_changes.specs.Tried.{TriesToAddChoice, TriesToAddChoices, TriesToAddField, TriesToAddFields, TriesIn};
 
 use crate::kinds::{
     decimals_or_null, high_or_null, kind_word, low_or_null, size_or_null, unit_or_null,
@@ -31,8 +34,8 @@ fn insert_choice<W: Writable>(
     name: &Name,
 ) -> Result<usize, Error>
     requires { ¬ IsTooGreat place }
-    ensures { Writes W.lender W.state (Becomes (with_choice field.id place name.now))
-        tx.old tx.new result }
+    ensures { WritesTrying (Only (adding_choice (choice_at field.id (pos 0) place name.now)))
+        W.lender W.state (Becomes (with_choice field.id place name.now)) tx.old tx.new result }
 {
     run(
         tx,
@@ -47,7 +50,8 @@ fn insert_choice<W: Writable>(
 
 // Adds a choice after those that the field has.
 fn add_choice<W: Writable>(tx: &mut W, field: RowId, name: &Name) -> Result<(), Error>
-    ensures { Writes W.lender W.state (AddsChoice field.id name.now) tx.old tx.new result }
+    ensures { WritesTrying (TriesToAddChoice field.id name.now) W.lender W.state
+        (AddsChoice field.id name.now) tx.old tx.new result }
 {
     let place = choice_place(tx, field)?;
     insert_choice(tx, field, place, name)?;
@@ -56,8 +60,8 @@ fn add_choice<W: Writable>(tx: &mut W, field: RowId, name: &Name) -> Result<(), 
 
 // Adds choices, one after the other.
 fn add_choices<W: Writable>(tx: &mut W, field: RowId, names: &[Name]) -> Result<(), Error>
-    ensures { Writes W.lender W.state (InTurn (AddsChoice field.id) names.now)
-        tx.old tx.new result }
+    ensures { WritesTrying (TriesToAddChoices field.id names.now) W.lender W.state
+        (InTurn (AddsChoice field.id) names.now) tx.old tx.new result }
 {
     for one in names {
         add_choice(tx, field, one)?;
@@ -67,8 +71,8 @@ fn add_choices<W: Writable>(tx: &mut W, field: RowId, names: &[Name]) -> Result<
 
 // Adds the choices of a kind, if it has some.
 fn add_kind<W: Writable>(tx: &mut W, field: RowId, kind: &Kind) -> Result<(), Error>
-    ensures { Writes W.lender W.state (InTurn (AddsChoice field.id) (kind_names kind.now))
-        tx.old tx.new result }
+    ensures { WritesTrying (TriesToAddChoices field.id (kind_names kind.now)) W.lender W.state
+        (InTurn (AddsChoice field.id) (kind_names kind.now)) tx.old tx.new result }
 {
     match kind {
         Kind::Choice { choices } => add_choices(tx, field, choices.names()),
@@ -78,7 +82,8 @@ fn add_kind<W: Writable>(tx: &mut W, field: RowId, kind: &Kind) -> Result<(), Er
 
 // Adds the row.
 fn insert_form<W: Writable>(tx: &mut W, lab: RowId, form: &FormVersion) -> Result<RowId, Error>
-    ensures { AnswersCall W.lender W.state (λ one before after.
+    ensures { AnswersTrying (Only (adding_form (form_row_of lab.id (pos 0) form.now)))
+        W.lender W.state (λ one before after.
         (one.id ≡ next_key form_id before.forms)
         × (after ≡ with_form lab.id form.now before))
         tx.old tx.new result }
@@ -105,7 +110,8 @@ fn insert_field<W: Writable>(
     field: &Field,
 ) -> Result<RowId, Error>
     requires { ¬ IsTooGreat place }
-    ensures { AnswersCall W.lender W.state (λ one before after.
+    ensures { AnswersTrying (Only (adding_field (field_at form.id (pos 0) place field.now)))
+        W.lender W.state (λ one before after.
         (one.id ≡ next_key field_id before.fields)
         × (after ≡ with_field form.id place field.now before))
         tx.old tx.new result }
@@ -134,7 +140,8 @@ fn insert_field<W: Writable>(
 
 // Adds a field, with its choices, after those that the form has.
 fn add_field<W: Writable>(tx: &mut W, form: RowId, field: &Field) -> Result<(), Error>
-    ensures { Writes W.lender W.state (AddsField form.id field.now) tx.old tx.new result }
+    ensures { WritesTrying (TriesToAddField form.id field.now) W.lender W.state
+        (AddsField form.id field.now) tx.old tx.new result }
 {
     let place = field_place(tx, form)?;
     let id = insert_field(tx, form, place, field)?;
@@ -144,7 +151,8 @@ fn add_field<W: Writable>(tx: &mut W, form: RowId, field: &Field) -> Result<(), 
 
 // Adds fields, one after the other.
 fn add_fields<W: Writable>(tx: &mut W, form: RowId, fields: &[Field]) -> Result<(), Error>
-    ensures { Writes W.lender W.state (InTurn (AddsField form.id) fields.now) tx.old tx.new result }
+    ensures { WritesTrying (TriesToAddFields form.id fields.now) W.lender W.state
+        (InTurn (AddsField form.id) fields.now) tx.old tx.new result }
 {
     for one in fields {
         add_field(tx, form, one)?;
@@ -157,7 +165,8 @@ fn add_fields<W: Writable>(tx: &mut W, form: RowId, fields: &[Field]) -> Result<
 /// # Errors
 /// The store failed, or memory ran out.
 pub fn add_form<W: Writable>(tx: &mut W, lab: RowId, form: &FormVersion) -> Result<(), Error>
-    ensures { Writes W.lender W.state (AppliesIn lab.id (FormAdded form.now)) tx.old tx.new result }
+    ensures { WritesTrying (TriesIn lab.id (FormAdded form.now)) W.lender W.state
+        (AppliesIn lab.id (FormAdded form.now)) tx.old tx.new result }
 {
     let id = insert_form(tx, lab, form)?;
     add_fields(tx, id, form.form.fields())?;

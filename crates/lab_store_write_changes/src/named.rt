@@ -5,8 +5,10 @@ ghost use Rattle.sqlite_value.specs.declared.value.Value.TheVariants.{Int};
 ghost use Rattle.sqlite.specs.State.{HasCleanDisk};
 ghost use Rattle.lab_store_tables.specs.Rows.{record_id};
 ghost use Rattle.lab_store_tables.specs.Changes.{record_named};
-ghost use Rattle.lab_store_write.specs.Calls.{AnswersCall, Finds};
+ghost use Rattle.lab_store_write.specs.Calls.{AnswersTrying, Finds};
 ghost use Rattle.lab_store_write.specs.Causes.{IsShown};
+ghost use Rattle.lab_store_write.specs.Tried.{Only};
+ghost use Rattle.lab_store_write_changes.specs.Statements.{asking_record, asking_current, asking_version};
 ghost use Rattle.lab_store_write_changes.specs.VersionsShown.{records_shown, current_of, version_in_record, versions_shown, first_value, IsUnversioned};
 
 use lab_forms_texts::Ordinal;
@@ -16,10 +18,10 @@ use sqlite::{Error, Row};
 
 // The rows of the record with the number, in the laboratory.
 fn record_rows<W: Writable>(tx: &mut W, lab: RowId, wanted: Ordinal) -> Result<Vec<Row>, Error>
-    ensures found { AnswersCall W.lender W.state
+    ensures found { AnswersTrying (Only (asking_record lab.id wanted)) W.lender W.state
         (λ rows. Finds (λ t. rows.items ≡ records_shown lab.id wanted t)) tx.old tx.new result }
-    ensures shown { HasCleanDisk (W.state tx.new) →
-        IfOk result (λ rows. IsShown (W.state tx.old) (W.state tx.new) rows.items) }
+    ensures shown { HasCleanDisk (W.state tx.new) → IfOk result (λ rows.
+        IsShown (asking_record lab.id wanted) (W.state tx.old) (W.state tx.new) rows.items) }
 {
     tx.query_all(
         "SELECT id FROM records WHERE lab = ?1 AND number = ?2 ORDER BY id",
@@ -36,8 +38,8 @@ pub(crate) fn record_at<W: Writable>(
     lab: RowId,
     wanted: Ordinal,
 ) -> Result<RowId, Error>
-    ensures { AnswersCall W.lender W.state (λ one. Finds (λ t.
-        option_map record_id (record_named t lab.id wanted) ≡ Some one.id))
+    ensures { AnswersTrying (Only (asking_record lab.id wanted)) W.lender W.state
+        (λ one. Finds (λ t. option_map record_id (record_named t lab.id wanted) ≡ Some one.id))
         tx.old tx.new result }
 {
     let rows = record_rows(tx, lab, wanted)?;
@@ -70,11 +72,11 @@ fn first_version(rows: &[Row]) -> Result<RowId, Error>
 
 // The rows of the current version of the record with the number, in the laboratory.
 fn current_rows<W: Writable>(tx: &mut W, lab: RowId, wanted: Ordinal) -> Result<Vec<Row>, Error>
-    ensures found { AnswersCall W.lender W.state
+    ensures found { AnswersTrying (Only (asking_current lab.id wanted)) W.lender W.state
         (λ rows. Finds (λ t. rows.items ≡ versions_shown current_of lab.id wanted t))
         tx.old tx.new result }
-    ensures shown { HasCleanDisk (W.state tx.new) →
-        IfOk result (λ rows. IsShown (W.state tx.old) (W.state tx.new) rows.items) }
+    ensures shown { HasCleanDisk (W.state tx.new) → IfOk result (λ rows.
+        IsShown (asking_current lab.id wanted) (W.state tx.old) (W.state tx.new) rows.items) }
 {
     tx.query_all(
         "SELECT versions.id FROM records LEFT JOIN versions ON versions.record = records.id AND versions.number = records.current WHERE records.lab = ?1 AND records.number = ?2 ORDER BY records.id, versions.id",
@@ -91,7 +93,7 @@ pub(crate) fn current_version_at<W: Writable>(
     lab: RowId,
     wanted: Ordinal,
 ) -> Result<RowId, Error>
-    ensures { AnswersCall W.lender W.state
+    ensures { AnswersTrying (Only (asking_current lab.id wanted)) W.lender W.state
         (λ one. Finds (λ t. version_in_record current_of t lab.id wanted ≡ Some one.id))
         tx.old tx.new result }
 {
@@ -106,11 +108,11 @@ fn version_rows<W: Writable>(
     wanted: Ordinal,
     version: Ordinal,
 ) -> Result<Vec<Row>, Error>
-    ensures found { AnswersCall W.lender W.state
+    ensures found { AnswersTrying (Only (asking_version lab.id wanted version)) W.lender W.state
         (λ rows. Finds (λ t. rows.items ≡ versions_shown (λ _. version) lab.id wanted t))
         tx.old tx.new result }
-    ensures shown { HasCleanDisk (W.state tx.new) →
-        IfOk result (λ rows. IsShown (W.state tx.old) (W.state tx.new) rows.items) }
+    ensures shown { HasCleanDisk (W.state tx.new) → IfOk result (λ rows.
+        IsShown (asking_version lab.id wanted version) (W.state tx.old) (W.state tx.new) rows.items) }
 {
     tx.query_all(
         "SELECT versions.id FROM records LEFT JOIN versions ON versions.record = records.id AND versions.number = ?3 WHERE records.lab = ?1 AND records.number = ?2 ORDER BY records.id, versions.id",
@@ -128,7 +130,7 @@ pub(crate) fn version_at<W: Writable>(
     wanted: Ordinal,
     version: Ordinal,
 ) -> Result<RowId, Error>
-    ensures { AnswersCall W.lender W.state
+    ensures { AnswersTrying (Only (asking_version lab.id wanted version)) W.lender W.state
         (λ one. Finds (λ t. version_in_record (λ _. version) t lab.id wanted ≡ Some one.id))
         tx.old tx.new result }
 {

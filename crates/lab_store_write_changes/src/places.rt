@@ -1,10 +1,12 @@
 //! The place after the rows that a parent has.
 
 ghost use Rattle.std.specs.Prelude.{◌≡◌, ◌+◌, filter, length, IfOk};
-ghost use Rattle.lab_store_write.specs.Calls.{AnswersCall, Finds};
+ghost use Rattle.lab_store_write.specs.Calls.{AnswersTrying, Finds};
 ghost use Rattle.lab_store_write.specs.Causes.{IsTooGreat};
 ghost use Rattle.lab_store_write_changes.specs.FieldsShown.{is_field_of, is_choice_of};
 ghost use Rattle.lab_store_write_changes.specs.VersionsShown.{is_entry_of, is_signature_of};
+ghost use Rattle.lab_store_write.specs.Tried.{Only};
+ghost use Rattle.lab_store_write_changes.specs.Statements.{asking_fields, asking_choices, asking_entries, asking_signatures};
 
 use lab_store_write::{RowId, Writable, place_below};
 use sqlite::Error;
@@ -14,7 +16,7 @@ use sqlite::Error;
 /// # Errors
 /// The store failed, or memory ran out.
 pub(crate) fn field_place<W: Writable>(tx: &mut W, parent: RowId) -> Result<u64, Error>
-    ensures counts { AnswersCall W.lender W.state
+    ensures counts { AnswersTrying (Only (asking_fields parent.id)) W.lender W.state
         (λ place. Finds (λ t. place ≡ length (filter (is_field_of parent.id) t.fields) + 1))
         tx.old tx.new result }
     ensures fits { IfOk result (λ place. ¬ IsTooGreat place) }
@@ -31,7 +33,7 @@ pub(crate) fn field_place<W: Writable>(tx: &mut W, parent: RowId) -> Result<u64,
 /// # Errors
 /// The store failed, or memory ran out.
 pub(crate) fn choice_place<W: Writable>(tx: &mut W, parent: RowId) -> Result<u64, Error>
-    ensures counts { AnswersCall W.lender W.state
+    ensures counts { AnswersTrying (Only (asking_choices parent.id)) W.lender W.state
         (λ place. Finds (λ t. place ≡ length (filter (is_choice_of parent.id) t.choices) + 1))
         tx.old tx.new result }
     ensures fits { IfOk result (λ place. ¬ IsTooGreat place) }
@@ -48,7 +50,7 @@ pub(crate) fn choice_place<W: Writable>(tx: &mut W, parent: RowId) -> Result<u64
 /// # Errors
 /// The store failed, or memory ran out.
 pub(crate) fn entry_place<W: Writable>(tx: &mut W, parent: RowId) -> Result<u64, Error>
-    ensures counts { AnswersCall W.lender W.state
+    ensures counts { AnswersTrying (Only (asking_entries parent.id)) W.lender W.state
         (λ place. Finds (λ t. place ≡ length (filter (is_entry_of parent.id) t.entries) + 1))
         tx.old tx.new result }
     ensures fits { IfOk result (λ place. ¬ IsTooGreat place) }
@@ -65,7 +67,7 @@ pub(crate) fn entry_place<W: Writable>(tx: &mut W, parent: RowId) -> Result<u64,
 /// # Errors
 /// The store failed, or memory ran out.
 pub(crate) fn signature_place<W: Writable>(tx: &mut W, parent: RowId) -> Result<u64, Error>
-    ensures counts { AnswersCall W.lender W.state
+    ensures counts { AnswersTrying (Only (asking_signatures parent.id)) W.lender W.state
         (λ place. Finds (λ t. place ≡ length (filter (is_signature_of parent.id) t.signatures) + 1))
         tx.old tx.new result }
     ensures fits { IfOk result (λ place. ¬ IsTooGreat place) }

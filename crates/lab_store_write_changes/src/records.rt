@@ -1,13 +1,16 @@
 //! Records, each with its versions.
 
-ghost use Rattle.std.specs.Prelude.{◌≡◌};
+ghost use Rattle.std.specs.Prelude.{◌≡◌, pos};
 ghost use Rattle.sqlite_keyed.specs.Keyed.{next_key};
 ghost use Rattle.lab_records_kept.specs.declared.changes.Change.TheVariants.{RecordAdded};
 ghost use Rattle.lab_store_tables.specs.Rows.{LabRow, record_id};
-ghost use Rattle.lab_store_tables.specs.Changes.{AppliesIn, in_lab, InTurn, AddsVersion};
-ghost use Rattle.lab_store_write.specs.Calls.{AnswersCall, Writes, Becomes, MadeFrom};
+ghost use Rattle.lab_store_tables.specs.Changes.{AppliesIn, in_lab, InTurn, AddsVersion, record_row_of};
+ghost use Rattle.lab_store_write.specs.Calls.{AnswersTrying, WritesTrying, Becomes, MadeFrom};
 ghost use Rattle.lab_store_write.specs.Givers.{Knows, EachKnowing};
+ghost use Rattle.lab_store_write.specs.Tried.{Only, TriedFrom};
 ghost use Rattle.lab_store_write_changes.specs.RecordsAdded.{with_record};
+ghost use Rattle.lab_store_write_changes.specs.Statements.{adding_record, counting_records};
+ghost use Rattle.lab_store_write_changes.specs.Tried.{TriesToAddVersions, TriesIn};
 
 use crate::named_forms::form_id_at;
 use crate::versions::add_version;
@@ -26,7 +29,9 @@ fn insert_record<W: Writable>(
     form: RowId,
     kept: &Record,
 ) -> Result<RowId, Error>
-    ensures { AnswersCall W.lender W.state (λ one before after.
+    ensures { AnswersTrying
+        (Only (adding_record (record_row_of lab.id (pos 0) form.id kept.now)))
+        W.lender W.state (λ one before after.
         (one.id ≡ next_key record_id before.records)
         × (after ≡ with_record lab.id form.id kept.now before))
         tx.old tx.new result }
@@ -51,7 +56,7 @@ fn insert_record<W: Writable>(
 
 // Sets how many records the laboratory has.
 fn set_records<W: Writable>(tx: &mut W, lab: RowId, count: Ordinal) -> Result<usize, Error>
-    ensures { Writes W.lender W.state
+    ensures { WritesTrying (Only (counting_records lab.id count)) W.lender W.state
         (Becomes (in_lab lab.id (λ (one : LabRow). record one { records = count })))
         tx.old tx.new result }
 {
@@ -70,7 +75,9 @@ fn add_versions<W: Writable>(
     kept: RowId,
     versions: &[Version],
 ) -> Result<(), Error>
-    ensures { Writes W.lender W.state
+    ensures { WritesTrying
+        (TriedFrom (Knows lab.id giver.entry) (TriesToAddVersions lab.id kept.id versions.now))
+        W.lender W.state
         (InTurn (EachKnowing lab.id giver.entry (AddsVersion lab.id kept.id)) versions.now)
         tx.old tx.new result }
 {
@@ -90,7 +97,9 @@ pub fn add_record<W: Writable>(
     giver: Option<Giver<'_>>,
     kept: &Record,
 ) -> Result<(), Error>
-    ensures { Writes W.lender W.state
+    ensures { WritesTrying
+        (TriedFrom (Knows lab.id giver.entry) (TriesIn lab.id (RecordAdded kept.now)))
+        W.lender W.state
         (MadeFrom (Knows lab.id giver.entry) (AppliesIn lab.id (RecordAdded kept.now)))
         tx.old tx.new result }
 {

@@ -1,11 +1,15 @@
 //! The signatures of a version, each added after those that the version has.
 
+ghost use Rattle.std.specs.Prelude.{pos};
 ghost use Rattle.lab_records_kept.specs.declared.changes.Change.TheVariants.{SignatureAdded};
 ghost use Rattle.lab_store_tables.specs.Changes.{AppliesIn, AddsSignature};
-ghost use Rattle.lab_store_write.specs.Calls.{Writes, Becomes, MadeFrom};
+ghost use Rattle.lab_store_write.specs.Calls.{WritesTrying, Becomes, MadeFrom};
 ghost use Rattle.lab_store_write.specs.Causes.{IsTooGreat};
 ghost use Rattle.lab_store_write.specs.Givers.{Knows};
-ghost use Rattle.lab_store_write_changes.specs.EntriesAdded.{with_signature};
+ghost use Rattle.lab_store_write.specs.Tried.{Only, TriedFrom};
+ghost use Rattle.lab_store_write_changes.specs.EntriesAdded.{signature_at, with_signature};
+ghost use Rattle.lab_store_write_changes.specs.Statements.{adding_signature};
+ghost use Rattle.lab_store_write_changes.specs.Tried.{TriesToAddSignature, TriesIn};
 
 use crate::named::version_at;
 use crate::places::signature_place;
@@ -26,7 +30,9 @@ fn insert_signature<W: Writable>(
     signature: &Signature,
 ) -> Result<usize, Error>
     requires { ¬ IsTooGreat place }
-    ensures { Writes W.lender W.state
+    ensures { WritesTrying
+        (Only (adding_signature (signature_at version.id (pos 0) place person.id signature.now)))
+        W.lender W.state
         (Becomes (with_signature version.id place person.id signature.now)) tx.old tx.new result }
 {
     let name = signature.name.as_str();
@@ -61,7 +67,9 @@ pub(crate) fn add_signature<W: Writable>(
     version: RowId,
     signature: &Signature,
 ) -> Result<(), Error>
-    ensures { Writes W.lender W.state
+    ensures { WritesTrying
+        (TriedFrom (Knows lab.id giver.entry) (TriesToAddSignature lab.id version.id signature.now))
+        W.lender W.state
         (MadeFrom (Knows lab.id giver.entry) (AddsSignature lab.id version.id signature.now))
         tx.old tx.new result }
 {
@@ -83,7 +91,9 @@ pub fn sign_version<W: Writable>(
     version: Ordinal,
     signature: &Signature,
 ) -> Result<(), Error>
-    ensures { Writes W.lender W.state (MadeFrom (Knows lab.id giver.entry)
+    ensures { WritesTrying (TriedFrom (Knows lab.id giver.entry)
+        (TriesIn lab.id (SignatureAdded wanted version signature.now)))
+        W.lender W.state (MadeFrom (Knows lab.id giver.entry)
         (AppliesIn lab.id (SignatureAdded wanted version signature.now))) tx.old tx.new result }
 {
     let signed = version_at(tx, lab, wanted, version)?;

@@ -1,14 +1,17 @@
 //! Versions of records, each with its rows and its signatures.
 
-ghost use Rattle.std.specs.Prelude.{◌≡◌};
+ghost use Rattle.std.specs.Prelude.{◌≡◌, pos};
 ghost use Rattle.sqlite_keyed.specs.Keyed.{next_key};
 ghost use Rattle.lab_records_kept.specs.declared.changes.Change.TheVariants.{VersionOpened};
 ghost use Rattle.lab_store_tables.specs.Rows.{version_id};
 ghost use Rattle.lab_store_tables.specs.Columns.{format_number};
-ghost use Rattle.lab_store_tables.specs.Changes.{AppliesIn, InTurn, AddsEntry, AddsSignature, AddsVersion, set_current as with_current};
-ghost use Rattle.lab_store_write.specs.Calls.{AnswersCall, Writes, Becomes, MadeFrom};
+ghost use Rattle.lab_store_tables.specs.Changes.{AppliesIn, InTurn, AddsEntry, AddsSignature, AddsVersion, version_row_of, set_current as with_current};
+ghost use Rattle.lab_store_write.specs.Calls.{AnswersTrying, WritesTrying, Becomes, MadeFrom};
 ghost use Rattle.lab_store_write.specs.Givers.{Knows, EachKnowing};
+ghost use Rattle.lab_store_write.specs.Tried.{Only, TriedFrom};
 ghost use Rattle.lab_store_write_changes.specs.RecordsAdded.{with_version};
+ghost use Rattle.lab_store_write_changes.specs.Statements.{adding_version, setting_current};
+ghost use Rattle.lab_store_write_changes.specs.Tried.{TriesToAddEntries, TriesToAddSignatures, TriesToAddVersion, TriesIn};
 
 use crate::entries::add_entry;
 use crate::named::record_at;
@@ -40,7 +43,9 @@ fn insert_version<W: Writable>(
     opener: RowId,
     version: &Version,
 ) -> Result<RowId, Error>
-    ensures { AnswersCall W.lender W.state (λ one before after.
+    ensures { AnswersTrying
+        (Only (adding_version (version_row_of kept.id (pos 0) opener.id version.now)))
+        W.lender W.state (λ one before after.
         (one.id ≡ next_key version_id before.versions)
         × (after ≡ with_version kept.id opener.id version.now before))
         tx.old tx.new result }
@@ -69,7 +74,9 @@ fn add_entries<W: Writable>(
     version: RowId,
     rows: &[EntryRow],
 ) -> Result<(), Error>
-    ensures { Writes W.lender W.state
+    ensures { WritesTrying
+        (TriedFrom (Knows lab.id giver.entry) (TriesToAddEntries lab.id version.id rows.now))
+        W.lender W.state
         (InTurn (EachKnowing lab.id giver.entry (AddsEntry lab.id version.id)) rows.now)
         tx.old tx.new result }
 {
@@ -87,7 +94,9 @@ fn add_signatures<W: Writable>(
     version: RowId,
     signatures: &[Signature],
 ) -> Result<(), Error>
-    ensures { Writes W.lender W.state
+    ensures { WritesTrying (TriedFrom (Knows lab.id giver.entry)
+        (TriesToAddSignatures lab.id version.id signatures.now))
+        W.lender W.state
         (InTurn (EachKnowing lab.id giver.entry (AddsSignature lab.id version.id)) signatures.now)
         tx.old tx.new result }
 {
@@ -108,7 +117,9 @@ pub(crate) fn add_version<W: Writable>(
     kept: RowId,
     version: &Version,
 ) -> Result<(), Error>
-    ensures { Writes W.lender W.state
+    ensures { WritesTrying
+        (TriedFrom (Knows lab.id giver.entry) (TriesToAddVersion lab.id kept.id version.now))
+        W.lender W.state
         (MadeFrom (Knows lab.id giver.entry) (AddsVersion lab.id kept.id version.now))
         tx.old tx.new result }
 {
@@ -121,8 +132,8 @@ pub(crate) fn add_version<W: Writable>(
 
 // Sets which version of the record is the current one.
 fn set_current<W: Writable>(tx: &mut W, kept: RowId, version: Ordinal) -> Result<usize, Error>
-    ensures { Writes W.lender W.state (Becomes (with_current kept.id version))
-        tx.old tx.new result }
+    ensures { WritesTrying (Only (setting_current kept.id version)) W.lender W.state
+        (Becomes (with_current kept.id version)) tx.old tx.new result }
 {
     run(
         tx,
@@ -142,7 +153,9 @@ pub fn open_version<W: Writable>(
     wanted: Ordinal,
     version: &Version,
 ) -> Result<(), Error>
-    ensures { Writes W.lender W.state
+    ensures { WritesTrying
+        (TriedFrom (Knows lab.id giver.entry) (TriesIn lab.id (VersionOpened wanted version.now)))
+        W.lender W.state
         (MadeFrom (Knows lab.id giver.entry) (AppliesIn lab.id (VersionOpened wanted version.now)))
         tx.old tx.new result }
 {

@@ -1,4 +1,4 @@
-use Rattle.std.proofs.Common.{inl, inr, Err, w64, to_z, of_z, SFits, IsTrue, rules, sym, ◌∙◌}
+use Rattle.std.proofs.Common.{◌≡◌, ℤ, inl, inr, find, Some, Err, w64, to_z, of_z, SFits, IsTrue, rules, sym, subst, ◌∙◌}
 use Rattle.std.proofs.lemmas.Int.{to_z-of_z}
 use Rattle.sqlite.specs.Held.{state}
 use Rattle.sqlite.specs.State.{HasCleanDisk}
@@ -8,9 +8,12 @@ use Rattle.lab_store_write_changes.specs.Causes.{OneIsTooMuch}
 use Rattle.lab_store_read.specs.Causes.{HasFirst}
 use Rattle.lab_store_read_records.specs.Readable.{HasLab}
 use Rattle.lab_store_read_records.specs.Shown.{labs_shown}
-use Rattle.lab_store.specs.Causes.{RefusesChanges}
+use Rattle.lab_store_tables.specs.Rows.{Tables}
+use Rattle.lab_store_tables.specs.Meaning.{has_code}
+use Rattle.lab_store_write_changes.specs.Tried.{TriesAll}
+use Rattle.lab_store.specs.Causes.{RefusesChanges, TriesOf}
 use Rattle.lab_store_write.proofs.Transactions.{isnt_memory}
-use Rattle.lab_store.proofs.Causes.{told_after, told_as}
+use Rattle.lab_store.proofs.Causes.{told_after_trying, told_as}
 use Rattle.lab_store.proofs.After.{ends_ok, ends_err, found_row, counted_now}
 use Rattle.lab_store.proofs.applying.apply.Goals as goal
 
@@ -57,9 +60,18 @@ returns-in_default-clause-cause g c =
 pub returns-in-Err-clause-cause : goal.returns-in-Err-clause-cause
 returns-in-Err-clause-cause g c =
     let it = c.in_ok-found.ensures in
+    let keeping = c.requires.keeping in
+    let old = state g.S.Store c.args.tables.now.conn in
     let changes = c.args.changes.now in
     let code = c.args.code.now in
-    told_after g.S.Store (λ t. OneIsTooMuch changes) (RefusesChanges code changes) c.args.tables.now.conn c.lab_id_at.new.conn.conn c.commit_all.new.conn it.reads.passes
-    (λ clean. it.reads.same clean (it.opened c.requires.keeping.opened clean)) it.cause.limit c.in-Err.ensures.ends.clean (λ much. inr much)
+    let id = to_z w64 (of_z w64 c.in-Some.id) in
+    let fits : SFits w64 c.in-Some.id = search rules in
+    told_after_trying g.S.Store (λ t. OneIsTooMuch changes) (RefusesChanges code changes) c.args.tables.now.conn c.lab_id_at.new.conn.conn c.commit_all.new.conn it.reads.passes
+    (λ clean. it.reads.same clean (it.opened keeping.opened clean)) it.cause.limit c.in-Err.ensures.ends.clean (λ much. inr much)
+    (TriesAll id changes) (TriesOf code changes)
+    (λ ready clean t same tried at own.
+    let row = found_row _ c.in-Some.id (sym c.in-Some.is ∙ it.reads.answer ready clean (counted_now old c.args.counted.now keeping ready (it.reads.passes.clean clean) (it.opened keeping.opened clean))) in
+    (row.0, subst (λ (one : Tables). find (has_code code) one.labs ≡ Some row.0) (sym same) row.1,
+    subst (λ (lab : ℤ). TriesAll lab changes t tried at) (sym (row.2 ∙ sym (to_z-of_z w64 c.in-Some.id fits))) own))
     (λ t. HasFirst HasLab (labs_shown t code)) (Err c.read_fault.result)
     (told_as g.S.Store c.in-Err.error c.read_fault.result (λ told. isnt_memory c.in-Err.error (sym c.read_fault.ensures ∙ told)) c.in-Err.ensures.cause)

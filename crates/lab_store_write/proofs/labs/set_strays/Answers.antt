@@ -1,9 +1,11 @@
-use Rattle.std.proofs.Common.{◌≡◌, inl, [], ◌∷◌}
+use Rattle.std.proofs.Common.{◌≡◌, inl, [], ◌∷◌, refl}
 use Rattle.sqlite_value.specs.declared.value.Value.TheVariants.{Int}
 use Rattle.sqlite.specs.Values.{bound}
 use Rattle.lab_store_tables.specs.Rows.{LabRow, number}
 use Rattle.lab_store_tables.specs.Changes.{in_lab}
-use Rattle.lab_store_write.proofs.Writers.{wrote, not_asked}
+use Rattle.lab_store_write.specs.Statements.{setting_strays}
+use Rattle.lab_store_write.specs.Tried.{Only}
+use Rattle.lab_store_write.proofs.Writers.{wrote_by, not_asked}
 use Rattle.lab_store_write.proofs.LabWrites.{strays_ours, strays_text, sets_strays}
 use Rattle.lab_store_write.proofs.labs.set_strays.Goals as goal
 
@@ -16,5 +18,5 @@ returns g c =
     let new = g.W.Writable.state c.run.new.tx in
     let lab = c.args.lab.id in
     let given : bound (c.id_value.result ∷ c.in_ok-strays.strays ∷ []) ≡ Int lab ∷ number c.args.count ∷ [] = λ i. c.id_value.ensures i ∷ c.in_ok-strays.ensures.value i ∷ [] in
-    wrote strays_text (Int lab ∷ number c.args.count ∷ []) (strays_ours lab c.args.count) (in_lab lab (λ (one : LabRow). record one { stray = c.args.count })) c.run.ensures.stays given c.run.ensures.runs
+    wrote_by {tries = Only (setting_strays lab c.args.count)} strays_text (Int lab ∷ number c.args.count ∷ []) (strays_ours lab c.args.count) (λ _. (refl, refl)) (in_lab lab (λ (one : LabRow). record one { stray = c.args.count })) c.run.ensures.stays given c.run.ensures.runs
     (λ count. sets_strays lab c.args.count old new count)

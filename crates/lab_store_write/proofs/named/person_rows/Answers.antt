@@ -1,8 +1,10 @@
-use Rattle.std.proofs.Common.{◌≡◌, [], ◌∷◌}
+use Rattle.std.proofs.Common.{◌≡◌, [], ◌∷◌, refl}
 use Rattle.sqlite_value.specs.declared.value.Value.TheVariants.{Int, Text}
 use Rattle.sqlite.specs.Values.{bound}
 use Rattle.lab_store_write.specs.Shown.{persons_shown}
-use Rattle.lab_store_write.proofs.Writers.{rows_found, shown_rows}
+use Rattle.lab_store_write.specs.Statements.{asking_person}
+use Rattle.lab_store_write.specs.Tried.{Only}
+use Rattle.lab_store_write.proofs.Writers.{rows_found_by, shown_rows}
 use Rattle.lab_store_write.proofs.KeyLemmas.{person_text, person_means, person_ours, persons_read}
 use Rattle.lab_store_write.proofs.named.person_rows.Goals as goal
 
@@ -20,5 +22,5 @@ returns-clause-found g c =
     let key = c.args.code.now in
     let it = c.query_all.ensures in
     let given : bound (c.id_value.result ∷ c.text_value.result ∷ []) ≡ Int lab ∷ Text key ∷ [] = λ i. c.id_value.ensures i ∷ c.text_value.ensures i ∷ [] in
-    rows_found person_text person_means.read (Int lab ∷ Text key ∷ []) (person_ours lab key) (persons_shown lab key)
+    rows_found_by {tries = Only (asking_person lab key)} person_text person_means.read (Int lab ∷ Text key ∷ []) (person_ours lab key) (λ _. (refl, refl)) (persons_shown lab key)
     given it.same_lender it.survives it.ok it.err (λ rows. persons_read _ _ lab key rows)

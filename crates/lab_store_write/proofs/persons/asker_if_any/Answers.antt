@@ -1,12 +1,16 @@
 use Rattle.std.proofs.Common.{option_map, ap}
 use Rattle.lab_store_write.specs.Givers.{Knows}
 use Rattle.lab_store_write.specs.Persons.{asker_in}
-use Rattle.lab_store_write.proofs.Writers.{and_so, nothing_asked, fails_so}
+use Rattle.lab_store_write.specs.Tried.{TriesIfAny}
+use Rattle.lab_store_write.proofs.Writers.{and_so, nothing_asked, fails_so_by}
 use Rattle.lab_store_write.proofs.KeyLemmas.{named_some, named_none}
 use Rattle.lab_store_write.proofs.persons.asker_if_any.Goals as goal
 
 pub returns-in_err-asker-in-Some : goal.returns-in_err-asker-in-Some
-returns-in_err-asker-in-Some g c = fails_so c.in_err-asker-in-Some.ensures c.from_residual.result c.from_residual.ensures.1
+returns-in_err-asker-in-Some g c =
+    fails_so_by c.in_err-asker-in-Some.ensures {more = TriesIfAny c.args.lab.id (option_map asker_in c.args.ask.now)}
+    (λ before tried at it. (c.in-Some.ask.asker, ap (option_map asker_in) c.in-Some.is, it))
+    c.from_residual.result c.from_residual.ensures.1
 
 pub returns-in_ok-asker-in-Some : goal.returns-in_ok-asker-in-Some
 returns-in_ok-asker-in-Some g c =

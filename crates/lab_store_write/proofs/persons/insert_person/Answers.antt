@@ -8,7 +8,9 @@ use Rattle.lab_store_tables.specs.Ready.{tables_of}
 use Rattle.lab_store_write.specs.Ids.{row_id}
 use Rattle.lab_store_write.specs.Persons.{with_person}
 use Rattle.lab_store_write.proofs.PersonWords.{person_given}
-use Rattle.lab_store_write.proofs.Writers.{wrote}
+use Rattle.lab_store_write.specs.Statements.{adding_person}
+use Rattle.lab_store_write.specs.Tried.{Only}
+use Rattle.lab_store_write.proofs.Writers.{wrote_by}
 use Rattle.lab_store_write.proofs.PersonLemmas.{given_is}
 use Rattle.lab_store_write.proofs.PersonWrites.{add_person_ours, add_person_text, person_values, adds_person}
 use Rattle.lab_store_write.proofs.persons.insert_person.Goals as goal
@@ -25,5 +27,5 @@ returns g c =
     λ i. c.id_value.ensures i ∷ (c.text_value.ensures ∙ ap Text c.as_str-code.ensures.value) i ∷ (c.text_value-2.ensures ∙ ap Text c.as_str-name.ensures.value) i ∷ c.small_value.ensures i ∷ c.flag_value.ensures i ∷ c.small_value-2.ensures i ∷ c.moment_or_null.ensures i ∷ c.small_value-3.ensures i ∷ c.salt_or_null.ensures i ∷ c.rounds_or_null.ensures i ∷ c.made_or_null.ensures i ∷ c.salt_or_null-2.ensures i ∷ c.rounds_or_null-2.ensures i ∷ c.made_or_null-2.ensures i ∷ c.moment_or_null-2.ensures i ∷ c.id_or_null.ensures i ∷ c.moment_or_null-3.ensures i ∷ c.salt_or_null-3.ensures i ∷ c.rounds_or_null-3.ensures i ∷ c.made_or_null-3.ensures i ∷ [] in
     let second : person_given lab person c.roles_sum-roles.result c.password_cells-password.result c.ask_cells-ask.result ≡ person_values row =
     (λ i. person_given lab person (c.roles_sum-roles.ensures i) (c.password_cells-password.ensures i) (c.ask_cells-ask.ensures i)) ∙ given_is lab (next_key person_id (tables_of old).persons) c.args.asker person in
-    wrote add_person_text (person_values row) (add_person_ours row) (with_person lab asker person) c.run.ensures.stays (first ∙ second) c.run.ensures.runs
+    wrote_by {tries = Only (adding_person lab asker person)} add_person_text (person_values row) (add_person_ours row) (λ _. (refl, refl)) (with_person lab asker person) c.run.ensures.stays (first ∙ second) c.run.ensures.runs
     (λ count typed did. adds_person row old new count typed refl did)

@@ -1,11 +1,13 @@
-use Rattle.std.proofs.Common.{◌≡◌, [], ◌∷◌, option_map, ap, ◌∙◌}
+use Rattle.std.proofs.Common.{◌≡◌, [], ◌∷◌, option_map, refl, ap, ◌∙◌}
 use Rattle.sqlite_value.specs.declared.value.Value.TheVariants.{Int, Text}
 use Rattle.sqlite_value.specs.Order.{Row}
 use Rattle.sqlite.specs.Values.{bound}
 use Rattle.lab_store_tables.specs.Changes.{person_row_of, set_person}
 use Rattle.lab_store_write.specs.Ids.{row_id}
 use Rattle.lab_store_write.proofs.PersonWords.{person_given}
-use Rattle.lab_store_write.proofs.Writers.{wrote}
+use Rattle.lab_store_write.specs.Statements.{setting_person}
+use Rattle.lab_store_write.specs.Tried.{Only}
+use Rattle.lab_store_write.proofs.Writers.{wrote_by}
 use Rattle.lab_store_write.proofs.PersonLemmas.{given_is}
 use Rattle.lab_store_write.proofs.PersonWrites.{set_person_ours, set_person_text, person_values, sets_person}
 use Rattle.lab_store_write.proofs.persons.update_person.Goals as goal
@@ -22,5 +24,5 @@ returns g c =
     λ i. c.id_value.ensures i ∷ c.id_value-2.ensures i ∷ (c.text_value.ensures ∙ ap Text c.as_str-code.ensures.value) i ∷ (c.text_value-2.ensures ∙ ap Text c.as_str-name.ensures.value) i ∷ c.small_value.ensures i ∷ c.flag_value.ensures i ∷ c.small_value-2.ensures i ∷ c.moment_or_null.ensures i ∷ c.small_value-3.ensures i ∷ c.salt_or_null.ensures i ∷ c.rounds_or_null.ensures i ∷ c.made_or_null.ensures i ∷ c.salt_or_null-2.ensures i ∷ c.rounds_or_null-2.ensures i ∷ c.made_or_null-2.ensures i ∷ c.moment_or_null-2.ensures i ∷ c.id_or_null.ensures i ∷ c.moment_or_null-3.ensures i ∷ c.salt_or_null-3.ensures i ∷ c.rounds_or_null-3.ensures i ∷ c.made_or_null-3.ensures i ∷ [] in
     let second : person_given lab person c.roles_sum-roles.result c.password_cells-password.result c.ask_cells-ask.result ≡ person_values row =
     (λ i. person_given lab person (c.roles_sum-roles.ensures i) (c.password_cells-password.ensures i) (c.ask_cells-ask.ensures i)) ∙ given_is lab c.args.id.id c.args.asker person in
-    wrote set_person_text (Int c.args.id.id ∷ person_values row) (set_person_ours c.args.id.id row) (set_person row) c.run.ensures.stays (first ∙ ap (λ (l : Row). Int c.args.id.id ∷ l) second) c.run.ensures.runs
+    wrote_by {tries = Only (setting_person lab c.args.id.id asker person)} set_person_text (Int c.args.id.id ∷ person_values row) (set_person_ours c.args.id.id row) (λ _. (refl, refl)) (set_person row) c.run.ensures.stays (first ∙ ap (λ (l : Row). Int c.args.id.id ∷ l) second) c.run.ensures.runs
     (λ count. sets_person row old new count)

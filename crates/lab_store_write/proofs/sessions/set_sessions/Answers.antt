@@ -1,9 +1,11 @@
-use Rattle.std.proofs.Common.{◌≡◌, [], ◌∷◌}
+use Rattle.std.proofs.Common.{◌≡◌, [], ◌∷◌, refl}
 use Rattle.sqlite_value.specs.declared.value.Value.TheVariants.{Int}
 use Rattle.sqlite.specs.Values.{bound}
 use Rattle.lab_store_tables.specs.Rows.{LabRow, number}
 use Rattle.lab_store_tables.specs.Changes.{in_lab}
-use Rattle.lab_store_write.proofs.Writers.{wrote}
+use Rattle.lab_store_write.specs.Statements.{counting_sessions}
+use Rattle.lab_store_write.specs.Tried.{Only}
+use Rattle.lab_store_write.proofs.Writers.{wrote_by}
 use Rattle.lab_store_write.proofs.LabWrites.{sessions_ours, sessions_text, sets_sessions}
 use Rattle.lab_store_write.proofs.sessions.set_sessions.Goals as goal
 
@@ -13,5 +15,5 @@ returns g c =
     let new = g.W.Writable.state c.run.new.tx in
     let lab = c.args.lab.id in
     let given : bound (c.id_value.result ∷ c.ordinal_value.result ∷ []) ≡ Int lab ∷ number c.args.count ∷ [] = λ i. c.id_value.ensures i ∷ c.ordinal_value.ensures i ∷ [] in
-    wrote sessions_text (Int lab ∷ number c.args.count ∷ []) (sessions_ours lab c.args.count) (in_lab lab (λ (one : LabRow). record one { sessions = c.args.count })) c.run.ensures.stays given c.run.ensures.runs
+    wrote_by {tries = Only (counting_sessions lab c.args.count)} sessions_text (Int lab ∷ number c.args.count ∷ []) (sessions_ours lab c.args.count) (λ _. (refl, refl)) (in_lab lab (λ (one : LabRow). record one { sessions = c.args.count })) c.run.ensures.stays given c.run.ensures.runs
     (λ count. sets_sessions lab c.args.count old new count)

@@ -1,7 +1,9 @@
-use Rattle.std.proofs.Common.{◌≡◌, [], ◌∷◌, ap, ◌∙◌}
+use Rattle.std.proofs.Common.{◌≡◌, [], ◌∷◌, refl, ap, ◌∙◌}
 use Rattle.sqlite_value.specs.declared.value.Value.TheVariants.{Blob}
 use Rattle.sqlite.specs.Values.{bound}
-use Rattle.lab_store_write.proofs.Writers.{wrote_as, ran_so}
+use Rattle.lab_store_write.specs.Statements.{setting_session}
+use Rattle.lab_store_write.specs.Tried.{Only}
+use Rattle.lab_store_write.proofs.Writers.{wrote_as_by, ran_so}
 use Rattle.lab_store_write.specs.Added.{SetsIfAny}
 use Rattle.lab_store_write.proofs.SessionWrites.{set_session_text, set_session_values, set_session_ours, sets_session}
 use Rattle.lab_store_write.proofs.sessions.update_session.Goals as goal
@@ -23,5 +25,5 @@ returns-clause-writes g c =
     let person = c.args.person.id in
     let session = c.args.session.now in
     let given : bound (c.id_value.result ∷ c.blob_value.result ∷ c.id_value-2.result ∷ c.ordinal_value.result ∷ c.moment_value.result ∷ c.moment_value-2.result ∷ c.flag_value.result ∷ c.flag_value-2.result ∷ []) ≡ set_session_values lab person session = λ i. c.id_value.ensures i ∷ (c.blob_value.ensures ∙ ap Blob c.bytes-token.ensures) i ∷ c.id_value-2.ensures i ∷ c.ordinal_value.ensures i ∷ c.moment_value.ensures i ∷ c.moment_value-2.ensures i ∷ c.flag_value.ensures i ∷ c.flag_value-2.ensures i ∷ [] in
-    wrote_as set_session_text (set_session_values lab person session) (set_session_ours lab person session) (SetsIfAny lab person session) c.run.ensures.stays given c.run.ensures.runs
+    wrote_as_by {tries = Only (setting_session lab person session)} set_session_text (set_session_values lab person session) (set_session_ours lab person session) (λ _. (refl, refl)) (SetsIfAny lab person session) c.run.ensures.stays given c.run.ensures.runs
     (sets_session lab person session old new)

@@ -9,7 +9,9 @@ use Rattle.lab_store_write.specs.Ids.{row_id}
 use Rattle.lab_store_write.specs.TrailAdded.{with_told}
 use Rattle.lab_store_tables.specs.Family.{Trail}
 use Rattle.lab_store_write.proofs.Inserts.{adds_ours}
-use Rattle.lab_store_write.proofs.Writers.{wrote}
+use Rattle.lab_store_write.specs.Statements.{adding_told}
+use Rattle.lab_store_write.specs.Tried.{Only}
+use Rattle.lab_store_write.proofs.Writers.{wrote_by}
 use Rattle.lab_store_write.proofs.TrailWrites.{add_told_text, told_values, adds_told}
 use Rattle.lab_store_write.proofs.trails.insert_told.Goals as goal
 
@@ -22,5 +24,5 @@ returns g c =
     let told = c.args.told.now in
     let row = told_row_of lab (next_key trail_id (tables_of old).trail) person told in
     let given : bound (c.id_value.result ∷ c.ordinal_value.result ∷ c.moment_value.result ∷ c.id_or_null.result ∷ c.text_value.result ∷ c.text_value-2.result ∷ []) ≡ told_values row = λ i. c.id_value.ensures i ∷ c.ordinal_value.ensures i ∷ c.moment_value.ensures i ∷ c.id_or_null.ensures i ∷ (c.text_value.ensures ∙ ap Text c.word-action.ensures) i ∷ (c.text_value-2.ensures ∙ ap Text c.as_str-subject.ensures.value) i ∷ [] in
-    wrote add_told_text (told_values row) (adds_ours Trail row) (with_told lab person told) c.run.ensures.stays given c.run.ensures.runs
+    wrote_by {tries = Only (adding_told lab person told)} add_told_text (told_values row) (adds_ours Trail row) (λ _. (refl, refl)) (with_told lab person told) c.run.ensures.stays given c.run.ensures.runs
     (λ count typed did. adds_told row old new count typed refl did)

@@ -1,9 +1,11 @@
-use Rattle.std.proofs.Common.{◌≡◌, [], ◌∷◌}
+use Rattle.std.proofs.Common.{◌≡◌, [], ◌∷◌, refl}
 use Rattle.sqlite_value.specs.declared.value.Value.TheVariants.{Int}
 use Rattle.sqlite.specs.Values.{bound}
 use Rattle.lab_store_write_changes.specs.VersionsShown.{current_of, versions_shown}
 use Rattle.lab_store_tables.specs.Rows.{number}
-use Rattle.lab_store_write.proofs.Writers.{rows_found, shown_rows}
+use Rattle.lab_store_write_changes.specs.Statements.{asking_current}
+use Rattle.lab_store_write.specs.Tried.{Only}
+use Rattle.lab_store_write.proofs.Writers.{rows_found_by, shown_rows}
 use Rattle.lab_store_write_changes.proofs.VersionKeyLemmas.{current_text, current_means, current_ours, current_read}
 use Rattle.lab_store_write_changes.proofs.named.current_rows.Goals as goal
 
@@ -19,5 +21,5 @@ returns-clause-found g c =
     let it = c.query_all.ensures in
     let given : bound (c.id_value.result ∷ c.ordinal_value.result ∷ []) ≡ Int c.args.lab.id ∷ number c.args.wanted ∷ [] = λ i. c.id_value.ensures i
     ∷ c.ordinal_value.ensures i ∷ [] in
-    rows_found current_text current_means.read (Int c.args.lab.id ∷ number c.args.wanted ∷ []) (current_ours c.args.lab.id c.args.wanted) (versions_shown current_of c.args.lab.id c.args.wanted)
+    rows_found_by {tries = Only (asking_current c.args.lab.id c.args.wanted)} current_text current_means.read (Int c.args.lab.id ∷ number c.args.wanted ∷ []) (current_ours c.args.lab.id c.args.wanted) (λ _. (refl, refl)) (versions_shown current_of c.args.lab.id c.args.wanted)
     given it.same_lender it.survives it.ok it.err (current_read _ _ c.args.lab.id c.args.wanted)

@@ -1,9 +1,11 @@
-use Rattle.std.proofs.Common.{◌≡◌, [], ◌∷◌}
+use Rattle.std.proofs.Common.{◌≡◌, [], ◌∷◌, refl}
 use Rattle.sqlite_value.specs.declared.value.Value.TheVariants.{Int}
 use Rattle.sqlite.specs.Values.{bound}
 use Rattle.lab_store_write_changes.specs.VersionsShown.{versions_shown}
 use Rattle.lab_store_tables.specs.Rows.{number}
-use Rattle.lab_store_write.proofs.Writers.{rows_found, shown_rows}
+use Rattle.lab_store_write_changes.specs.Statements.{asking_version}
+use Rattle.lab_store_write.specs.Tried.{Only}
+use Rattle.lab_store_write.proofs.Writers.{rows_found_by, shown_rows}
 use Rattle.lab_store_write_changes.proofs.VersionKeyLemmas.{version_text, version_means, version_ours, version_read}
 use Rattle.lab_store_write_changes.proofs.named.version_rows.Goals as goal
 
@@ -21,6 +23,6 @@ returns-clause-found g c =
     let given : bound (c.id_value.result ∷ c.ordinal_value.result ∷ c.ordinal_value-2.result ∷ [])
     ≡ Int c.args.lab.id ∷ number c.args.wanted ∷ number c.args.version ∷ [] = λ i. c.id_value.ensures i
     ∷ c.ordinal_value.ensures i ∷ c.ordinal_value-2.ensures i ∷ [] in
-    rows_found version_text version_means.read (Int c.args.lab.id ∷ number c.args.wanted ∷ number c.args.version ∷ []) (version_ours c.args.lab.id c.args.wanted c.args.version)
+    rows_found_by {tries = Only (asking_version c.args.lab.id c.args.wanted c.args.version)} version_text version_means.read (Int c.args.lab.id ∷ number c.args.wanted ∷ number c.args.version ∷ []) (version_ours c.args.lab.id c.args.wanted c.args.version) (λ _. (refl, refl))
     (versions_shown (λ _. c.args.version) c.args.lab.id c.args.wanted)
     given it.same_lender it.survives it.ok it.err (version_read _ _ c.args.lab.id c.args.wanted c.args.version)

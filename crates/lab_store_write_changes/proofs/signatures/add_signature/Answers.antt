@@ -1,17 +1,38 @@
 use Rattle.lab_store_write.specs.Givers.{Knows}
-use Rattle.lab_store_write.proofs.Writers.{and_two, fails_so, then_fails, then_third_fails}
+use Rattle.std.proofs.Common.{inl, inr, pos, ℕ, ◌+◌, filter, length, ap, ◌∙◌}
+use Rattle.lab_store_tables.specs.Rows.{Tables}
+use Rattle.lab_store_write_changes.specs.Statements.{asking_signatures, adding_signature}
+use Rattle.lab_store_write.specs.Tried.{Only, TriedFrom}
+use Rattle.lab_store_write_changes.specs.EntriesAdded.{signature_at}
+use Rattle.lab_store_write_changes.specs.Tried.{TriesToAddSignature}
+use Rattle.lab_store_write_changes.specs.VersionsShown.{is_signature_of}
+use Rattle.lab_store_write.proofs.Trying.{found_first}
+use Rattle.lab_store_write.proofs.Writers.{and_two, fails_so_by, then_fails_by, then_third_fails_by}
 use Rattle.lab_store_write_changes.proofs.Added.{signature_added}
 use Rattle.lab_store_write_changes.proofs.signatures.add_signature.Goals as goal
 
 pub returns-in_err-person : goal.returns-in_err-person
-returns-in_err-person g c = fails_so c.in_err-person.ensures c.from_residual.result c.from_residual.ensures.1
+returns-in_err-person g c =
+    fails_so_by c.in_err-person.ensures {more = TriedFrom (Knows c.args.lab.id c.args.giver) (TriesToAddSignature c.args.lab.id c.args.version.id c.args.signature.now)} (λ before tried at it known. inl it)
+    c.from_residual.result c.from_residual.ensures.1
 
 pub returns-in_err-place : goal.returns-in_err-place
-returns-in_err-place g c = then_fails c.in_ok-person.ensures c.in_err-place.ensures.counts c.from_residual-in_err-place.result c.from_residual-in_err-place.ensures.1
+returns-in_err-place g c =
+    let own = Only (asking_signatures c.args.version.id) in
+    then_fails_by c.in_ok-person.ensures {tries = own} {more = TriedFrom (Knows c.args.lab.id c.args.giver) (TriesToAddSignature c.args.lab.id c.args.version.id c.args.signature.now)} c.in_err-place.ensures.counts
+    (λ before mid tried at found it known. inr (inl (found_first own found.1 it)))
+    c.from_residual-in_err-place.result c.from_residual-in_err-place.ensures.1
 
 pub returns-in_err-insert_signature : goal.returns-in_err-insert_signature
 returns-in_err-insert_signature g c =
-    then_third_fails c.in_ok-person.ensures c.in_ok-place.ensures.counts c.in_err-insert_signature.ensures c.from_residual-in_err-insert_signature.result c.from_residual-in_err-insert_signature.ensures.1
+    let version = c.args.version.id in
+    let person = c.in_ok-person.person.id in
+    let one = c.args.signature.now in
+    let sent = λ (place : ℕ). adding_signature (signature_at version (pos 0) place person one) in
+    then_third_fails_by c.in_ok-person.ensures c.in_ok-place.ensures.counts {third = Only (sent c.in_ok-place.place)} {more = TriedFrom (Knows c.args.lab.id c.args.giver) (TriesToAddSignature c.args.lab.id c.args.version.id c.args.signature.now)} c.in_err-insert_signature.ensures
+    (λ before mid late tried at found counted it known. inr (inr (person, found.0 known,
+    (it.0 ∙ ap sent (counted.0 ∙ ap (λ (t : Tables). length (filter (is_signature_of version) t.signatures) + 1) found.1), it.1 ∙ counted.1 ∙ found.1))))
+    c.from_residual-in_err-insert_signature.result c.from_residual-in_err-insert_signature.ensures.1
 
 pub returns : goal.returns
 returns g c =

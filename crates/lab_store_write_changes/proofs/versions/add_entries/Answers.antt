@@ -1,7 +1,11 @@
 use Rattle.std.proofs.Common.{arith}
 use Rattle.lab_store_tables.specs.Changes.{AddsEntry}
-use Rattle.lab_store_write.specs.Givers.{EachKnowing}
-use Rattle.lab_store_write.proofs.Writers.{turns_begun, turns_on, turns_ended, then_fails}
+use Rattle.lab_store_write.specs.Givers.{Knows, EachKnowing}
+use Rattle.lab_store_write.specs.Tried.{TriedFrom}
+use Rattle.lab_store_write_changes.specs.Tried.{TriesToAddEntry, TriesToAddEntries}
+use Rattle.lab_store_write_changes.proofs.Leaving.{entry_leaves}
+use Rattle.lab_store_write_changes.proofs.Trying.{in_turn_knowing}
+use Rattle.lab_store_write.proofs.Writers.{turns_begun, turns_on, turns_ended, then_fails_by}
 use Rattle.lab_store_write_changes.proofs.versions.add_entries.Goals as goal
 
 pub loop-one-init : goal.loop-one-init
@@ -13,7 +17,11 @@ loop-one-preserved g c =
     c.in_ok-add_entry.ensures
 
 pub returns-in_err-add_entry : goal.returns-in_err-add_entry
-returns-in_err-add_entry g c = then_fails c.loop-one.invariant c.in_err-add_entry.ensures c.from_residual.result c.from_residual.ensures.1
+returns-in_err-add_entry g c =
+    let knows = Knows c.args.lab.id c.args.giver in
+    then_fails_by c.loop-one.invariant {tries = TriedFrom knows (TriesToAddEntry c.args.lab.id c.args.version.id c.one-item.result)} {more = TriedFrom knows (TriesToAddEntries c.args.lab.id c.args.version.id c.args.rows.now)} c.in_err-add_entry.ensures
+    (in_turn_knowing c.args.lab.id c.args.giver (AddsEntry c.args.lab.id c.args.version.id) (entry_leaves c.args.lab.id c.args.version.id) (TriesToAddEntry c.args.lab.id c.args.version.id) c.args.rows.now c.loop-one.one-index c.one-item.result c.one-item.is (omega (arith, c.loop-one-test.true)))
+    c.from_residual.result c.from_residual.ensures.1
 
 pub returns : goal.returns
 returns g c = turns_ended (EachKnowing c.args.lab.id c.args.giver (AddsEntry c.args.lab.id c.args.version.id)) c.args.rows.now c.loop-one.one-index c.loop-one.invariant (omega (arith, c.loop-one-test.false))

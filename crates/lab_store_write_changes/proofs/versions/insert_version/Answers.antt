@@ -1,9 +1,11 @@
-use Rattle.std.proofs.Common.{◌≡◌, [], ◌∷◌, Option, option_map, refl, ap, ◌∙◌}
+use Rattle.std.proofs.Common.{◌≡◌, pos, [], ◌∷◌, Option, option_map, refl, ap, ◌∙◌}
 use Rattle.sqlite_value.specs.declared.value.Value.TheVariants.{Text}
 use Rattle.sqlite.specs.Values.{bound}
 use Rattle.sqlite_keyed.specs.Keyed.{next_key}
 use Rattle.lab_store_tables.specs.Ready.{tables_of}
-use Rattle.lab_store_write.proofs.Placed.{placed}
+use Rattle.lab_store_write_changes.specs.Statements.{adding_version}
+use Rattle.lab_store_write.specs.Tried.{Only}
+use Rattle.lab_store_write.proofs.Placed.{placed_by}
 use Rattle.lab_seal_versions.specs.declared.origins.Amendment.{Amendment}
 use Rattle.lab_store_tables.specs.Rows.{Tables, number, optional, version_id}
 use Rattle.lab_store_tables.specs.Changes.{version_row_of}
@@ -23,5 +25,5 @@ returns g c =
     ∷ c.cause_or_null.result ∷ []) ≡ version_values row = λ i. c.id_value.ensures i ∷ (c.ordinal_value.ensures ∙ ap number c.number-number.ensures) i
     ∷ (c.small_value.ensures ∙ ap number c.format_number-format.ensures) i ∷ c.id_value-2.ensures i ∷ c.moment_value.ensures i
     ∷ (c.cause_or_null.ensures ∙ ap cause c.amendment.ensures.value) i ∷ [] in
-    placed add_version_text (version_values row) (add_version_ours row) (with_version c.args.kept.id c.args.opener.id version) (λ (t : Tables). next_key version_id t.versions)
+    placed_by {tries = Only (adding_version (version_row_of c.args.kept.id (pos 0) c.args.opener.id version))} add_version_text (version_values row) (add_version_ours row) (λ _. (refl, refl)) (with_version c.args.kept.id c.args.opener.id version) (λ (t : Tables). next_key version_id t.versions)
     c.insert.ensures.stays given c.insert.ensures.ran (λ count typed did. (adds_version row old new count typed refl did, ids_version row old new count typed did)) c.insert.ensures.failed
