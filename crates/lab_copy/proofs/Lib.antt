@@ -9,3 +9,4 @@ pub mod KnownVersionChecks
 pub mod LongLemmas
 pub mod PassLemmas
 pub mod ReadLemmas
+pub mod SomeLemmas

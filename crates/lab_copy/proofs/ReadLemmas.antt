@@ -291,7 +291,7 @@ ahead found kept row before after source next fields left reads =
       found_is = is.found_is ∙ ap (verdict_after is.lines) rows;
     }
 
-line_same : (kept : Kept) (lines : List Line) (fields : List (List ℕ)) → IsAt kept lines
+pub line_same : (kept : Kept) (lines : List Line) (fields : List (List ℕ)) → IsAt kept lines
     → line_at (edition_by kept.copy) fields ≡ line_in lines fields
 line_same kept lines fields kept_at = ap (λ edition. line_at edition fields) (edition_is kept lines kept_at)
 

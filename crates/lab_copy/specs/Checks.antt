@@ -1,7 +1,10 @@
 -- Which rows a copy has, and the fault of one that wasn't read.
-use Rattle.std.specs.Prelude.{ℕ, List}
+use Rattle.std.specs.Prelude.{◌≡◌, ℕ, List, Option, Result, IfSome}
 use Rattle.csv.specs.Reading.{default_config, records, strip_bom}
+use Rattle.lab_copy_rows.specs.Copies.{verdict}
+use Rattle.lab_copy_rows.specs.declared.flaws.Flaw.{Flaw}
 use Rattle.lab_copy_rows.specs.declared.flaws.Flaw.TheVariants as flaw
+use Rattle.lab_copy_rows.specs.declared.lines.Counts.{Counts}
 use Rattle.lab_forms_texts.specs.declared.refusals.Fault.{Fault}
 use Rattle.lab_forms_texts.specs.declared.refusals.Fault.TheVariants as row_fault
 use Rattle.lab_copy_lines.specs.declared.faults.BadRow.{BadRow}
@@ -14,6 +17,12 @@ use Rattle.lab_copy.specs.declared.faults.CopyFault.TheVariants.{Flawed, Memory}
 -- reader defines them
 abbrev pub csv_rows_of : List ℕ → List (List (List ℕ))
 csv_rows_of bytes = records default_config (strip_bom bytes)
+
+-- this holds of the verdict on some bytes: all of the input, where that is known; else nothing says
+-- that they were read
+abbrev pub OfVerdict : Option (List ℕ) → (Result Counts Flaw → Type 0) → Type 0
+OfVerdict known Holds = (bytes : List ℕ) × IfSome known (λ all. bytes ≡ all)
+    × Holds (verdict (csv_rows_of bytes))
 
 -- how many rows of a copy are read at most, and how often its reader is asked; no copy has as many
 -- rows or bytes

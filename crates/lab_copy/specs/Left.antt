@@ -1,10 +1,10 @@
 -- What is left to find, while a copy is read: of the lines so far what is kept, and of the bytes
 -- those that the reader has left.
-use Rattle.std.specs.Prelude.{◌≡◌, ℕ, ◌+◌, ◌≤◌, false, List, length, Option, Some, Result}
+use Rattle.std.specs.Prelude.{◌≡◌, ℕ, ◌+◌, ◌≤◌, false, List, [], length, Option, Some, Result}
 use Rattle.csv.specs.Machine.{ends_at_end}
 use Rattle.csv.specs.Reading.{default_config, records_from}
 use Rattle.csv.specs.declared.parser.State.{State}
-use Rattle.lab_copy_rows.specs.Copies.{verdict_after}
+use Rattle.lab_copy_rows.specs.Copies.{verdict, verdict_after}
 use Rattle.lab_copy_rows.specs.declared.flaws.Flaw.{Flaw}
 use Rattle.lab_copy_rows.specs.declared.lines.Counts.{Counts}
 use Rattle.lab_copy_rows.specs.declared.lines.Line.{Line}
@@ -43,3 +43,10 @@ AreRows total row state source =
 abbrev pub AnswersRest : State → Option (List ℕ) → Result Counts CopyFault → Type 0
 AnswersRest state source result =
     (found : Result Counts Flaw) → IsLeftOf found kept_none 2 state source → IsAnswer found result
+
+-- the verdict on some rows is answered; and on some rows that follow the header
+abbrev pub AnswersSome : Result Counts CopyFault → Type 0
+AnswersSome result = (rows : List (List (List ℕ))) × IsAnswer (verdict rows) result
+
+abbrev pub AnswersSomeRest : Result Counts CopyFault → Type 0
+AnswersSomeRest result = (rows : List (List (List ℕ))) × IsAnswer (verdict_after [] rows) result

@@ -6,9 +6,9 @@ ghost use Rattle.csv.specs.declared.parser.State.TheVariants as st;
 ghost use Rattle.csv.specs.declared.reader.Trim.TheVariants as trim;
 ghost use Rattle.lab_copy_rows.specs.Copies.{verdict};
 ghost use Rattle.lab_copy.specs.Faults.{IsAnswer, IsNoFlaw};
-ghost use Rattle.lab_copy.specs.Checks.{fault_at, most_asks, most_rows, csv_rows_of};
+ghost use Rattle.lab_copy.specs.Checks.{OfVerdict, fault_at, most_asks, most_rows, csv_rows_of};
 ghost use Rattle.lab_copy.specs.Kept.{kept_none};
-ghost use Rattle.lab_copy.specs.Left.{AnswersRest, AreRows};
+ghost use Rattle.lab_copy.specs.Left.{AnswersRest, AnswersSome, AnswersSomeRest, AreRows};
 
 use crate::CopyFault;
 use crate::asks::{AskedReader, Asking, MOST_ASKS};
@@ -33,8 +33,7 @@ const MOST_ROWS: u64 = 1_000_000_000_000;
 /// The first flaw of the copy; the reader failed, was asked 1,000,000,000,000,000 times or returned
 /// more than 1,000,000,000,000 rows; or memory ran out.
 pub fn check_copy<R: ByteSource>(alloc: Global, reader: &mut R) -> Result<Counts, CopyFault>
-    ensures verdict { IfSome (R.remaining reader.old) (λ bytes.
-        IsAnswer (verdict (csv_rows_of bytes)) result) }
+    ensures verdict { OfVerdict (R.remaining reader.old) (λ found. IsAnswer found result) }
     ensures rows { IfSome (R.remaining reader.old) (λ bytes.
         OnOk result (length (csv_rows_of bytes) ≤ most_rows)) }
     ensures asks { R.asks reader.new ≤ R.asks reader.old + most_asks }
@@ -50,8 +49,7 @@ fn check_asking<'a, A: Asking, R: ByteSource>(
 ) -> (Result<Counts, CopyFault>, &'a mut R)
     requires name { source.ghost_name ≡ A.name }
     requires most { R.asks source.old + most_asks ≤ A.most }
-    ensures verdict { IfSome (R.remaining source.old) (λ bytes.
-        IsAnswer (verdict (csv_rows_of bytes)) result.0) }
+    ensures verdict { OfVerdict (R.remaining source.old) (λ found. IsAnswer found result.0) }
     ensures rows { IfSome (R.remaining source.old) (λ bytes.
         OnOk result.0 (length (csv_rows_of bytes) ≤ most_rows)) }
     ensures same_reference { result.1.ghost_name ≡ source.entry.ghost_name }
@@ -78,6 +76,7 @@ fn check_all<R: Read>(alloc: Global, rows: &mut Reader<R>) -> Result<Counts, Cop
     ensures verdict { (known : Option (List ℕ))
         → source_of R.remaining rows.old ≡ option_map strip_bom known
         → IfSome known (λ bytes. IsAnswer (verdict (csv_rows_of bytes)) result) }
+    ensures some { AnswersSome result }
     ensures rows { (known : Option (List ℕ))
         → source_of R.remaining rows.old ≡ option_map strip_bom known
         → IfSome known (λ bytes. OnOk result (length (csv_rows_of bytes) ≤ most_rows)) }
@@ -121,6 +120,7 @@ fn check_rows<R: Read>(
     requires ready { Ready rows.old }
     requires none { kept.old ≡ kept_none }
     ensures verdict { AnswersRest (reader_state rows.old) (source_of R.remaining rows.old) result }
+    ensures some { AnswersSomeRest result }
     ensures rows { (total : ℕ)
         → AreRows total 2 (reader_state rows.old) (source_of R.remaining rows.old)
         → OnOk result (total ≤ most_rows) }

@@ -48,6 +48,13 @@ impl<S: Drop> Drop for Desk<S> {
     }
 }
 
+/// The keeper over which no desk was made because memory ran out. It is handed back.
+#[derive(Drop)]
+pub struct Unmade<S> {
+    /// The keeper.
+    pub keeper: S,
+}
+
 impl<S> Model for Desk<S> {
     ghost use Rattle.std.specs.Prelude.{◌≡◌, option_map, unwrap_or};
     ghost use Rattle.lab_wire.specs.Replies.{memory_text};
@@ -65,16 +72,21 @@ impl<S> Model for Desk<S> {
 
 impl<S: Keeper + Drop> Desk<S> {
     /// Makes a desk over a keeper. Prepares the routes, and the reply that is sent if memory runs
-    /// out. After an error the keeper is dropped.
+    /// out.
     ///
     /// # Errors
-    /// Memory ran out.
-    pub fn new(alloc: Global, keeper: S) -> Result<Desk<S>, OutOfMemory>
+    /// Memory ran out. The keeper is handed back.
+    pub fn new(alloc: Global, keeper: S) -> Result<Desk<S>, Unmade<S>>
         ensures keeper { IfOk result (λ desk. desk.keeper ≡ keeper) }
         ensures reply { IfOk result (λ desk. desk.reply ≡ []) }
+        ensures unmade { IfErr result (λ unmade. unmade.keeper ≡ keeper) }
     {
-        let memory = memory_reply(alloc)?;
-        let routes = Routes::new(alloc)?;
+        let Ok(memory) = memory_reply(alloc) else {
+            return Err(Unmade { keeper });
+        };
+        let Ok(routes) = Routes::new(alloc) else {
+            return Err(Unmade { keeper });
+        };
         Ok(Desk {
             alloc,
             routes,

@@ -9,7 +9,7 @@ mod runs;
 mod serving;
 mod twin_runs;
 
-pub use desk::Desk;
+pub use desk::{Desk, Unmade};
 pub use desks::{Twins, twin};
 pub use lab_desk_events::Event;
 pub use lab_desk_foundings::{FoundFault, RunFault, ServeFault, founding_of};

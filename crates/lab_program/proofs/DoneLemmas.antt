@@ -10,25 +10,30 @@ use Rattle.sqlite_trees.specs.declared.store.Store.{Ghosts}
 use Rattle.lab_forms_texts.specs.Faults.{memory_entry}
 use Rattle.lab_forms_texts.specs.Names.{is_lab_code}
 use Rattle.lab_forms_streams.specs.declared.sending.WriteFault.{WriteFault as Untold}
+use Rattle.lab_forms_texts.specs.declared.refusals.Fault.{Fault}
+use Rattle.lab_records_keeper.specs.declared.faults.BadStore.{BadStore}
 use Rattle.lab_records_keeper.specs.declared.keeper.Keeper.{Ghosts as KeeperOf}
 use Rattle.lab_desk_events.specs.Runs.{IsAnswer}
 use Rattle.lab_program_replay.specs.declared.fault.ReplayFault.TheVariants.{Memory as ReplayMemory}
 use Rattle.lab_program_replay.specs.Event.{next_event}
 use Rattle.lab_program_replay.specs.Replay.{BeginsWith, Stops, PrintsReplayFault as TellsReplay}
 use Rattle.lab_copy_rows.specs.Copies.{verdict}
-use Rattle.lab_copy.specs.Checks.{csv_rows_of}
+use Rattle.lab_copy_rows.specs.declared.flaws.Flaw.{Flaw}
+use Rattle.lab_copy_rows.specs.declared.lines.Counts.{Counts}
+use Rattle.lab_copy.specs.Checks.{OfVerdict, csv_rows_of}
 use Rattle.lab_program_check.specs.declared.faults.StopFault.TheVariants.{Memory as StopMemory}
 use Rattle.lab_program_check.specs.Verdicts.{IsCheck}
 use Rattle.lab_program_opening.specs.declared.faults.OpenFault.{OpenFault}
 use Rattle.lab_program_opening.specs.Faults.{unopened_fault}
 use Rattle.lab_program_files.specs.FileWorlds.{file_keeper, file_refuses}
 use Rattle.lab_program_opening.specs.Ends.{WasClosed, WasGivenUp}
-use Rattle.lab_program_opening.specs.Files.{IsOpened, IsOurs, IsOursAnywhere, IsUnmade, IsUnopened}
+use Rattle.lab_program_opening.specs.Files.{IsOpened, IsOurs, IsOursAt, IsUnmade, IsUnopened, IsUnopenedAt}
 use Rattle.lab_program_opening.specs.Volumes.{FileAt}
+use Rattle.lab_program_host.proofs.ReadLemmas.{all_of}
 use Rattle.lab_program_host.specs.Sources.{Drawing}
 use Rattle.lab_program_files.specs.Copying.{CopyTask}
 use Rattle.lab_program_replay.specs.Replays.{IsReplay, ReplaysFromNothing}
-use Rattle.lab_program_files.specs.Serving.{ServesFile}
+use Rattle.lab_program_files.specs.Serving.{IsToldAs, ServesFile}
 use Rattle.lab_program_moves.specs.Moves.{IsMigration, MoveTask}
 use Rattle.lab_program.specs.CommandLine.{IsDone}
 use Rattle.lab_program_app.specs.Explaining.{Stopped}
@@ -40,15 +45,15 @@ use Rattle.lab_program_words.specs.Tasks.{Asked, founds, serves, copies, migrate
 
 module _ (before after told_before told_after : Option (List ℕ)) (status : Result ℕ Untold) where
   no_serving : {S : Type 0} (keeper : KeeperOf S) (found opened closed : S → Type 0)
-      (unopened : OpenFault → Type 0) (drawing : Drawing) (count : ℕ) → unopened unopened_fault
+      (unmended : Fault BadStore → Type 0) (unopened : OpenFault → Type 0) (drawing : Drawing) (count : ℕ) → unopened unopened_fault
       → IsUnbegun before after told_before told_after status
-      → ServesFile keeper found opened closed unopened drawing count (seen before after told_before told_after status)
-  no_serving keeper found opened closed unopened drawing count cause told = (
+      → ServesFile keeper found opened closed unmended unopened drawing count (seen before after told_before told_after status)
+  no_serving keeper found opened closed unmended unopened drawing count cause told = (
     None,
-    inr (inl (
-      (told.0, (unopened_fault, cause, declines_task before after told_before told_after status told)),
-      refl,
-    )),
+    inr (
+      inl (told.0, (unopened_fault, cause, declines_task before after told_before told_after status told)),
+      tt,
+    ),
     tt,
   )
 
@@ -98,20 +103,22 @@ no_replay input before after told_before told_after status told = record {
   tells = tells_replay told_before told_after status told.1;
 }
 
-no_check_of : (bytes : List ℕ) (before after told_before told_after : Option (List ℕ)) (status : Result ℕ Untold)
+no_check_of : (found : Result Counts Flaw) (before after told_before told_after : Option (List ℕ)) (status : Result ℕ Untold)
     → IsUnbegun before after told_before told_after status
-    → IsCheck (verdict (csv_rows_of bytes)) status before after told_before told_after
-no_check_of bytes before after told_before told_after (Ok number) told =
+    → IsCheck found status before after told_before told_after
+no_check_of found before after told_before told_after (Ok number) told =
     record { ending = Err StopMemory; told = told.0; tells = told.1 }
-no_check_of bytes before after told_before told_after (Err untold) told =
+no_check_of found before after told_before told_after (Err untold) told =
     record { ending = Err StopMemory; told = told.0; tells = told.1.1 }
 
 no_check : (input before after told_before told_after : Option (List ℕ)) (status : Result ℕ Untold)
     → IsUnbegun before after told_before told_after status
-    → IfSome input (λ bytes. IsCheck (verdict (csv_rows_of bytes)) status before after told_before told_after)
-no_check None before after told_before told_after status told = tt
-no_check (Some bytes) before after told_before told_after status told =
-    no_check_of bytes before after told_before told_after status told
+    → OfVerdict input (λ found. IsCheck found status before after told_before told_after)
+no_check input before after told_before told_after status told = (
+  unwrap_or input [],
+  all_of input,
+  no_check_of (verdict (csv_rows_of (unwrap_or input []))) before after told_before told_after status told,
+)
 
 -- ---- whichever is asked for
 
@@ -134,8 +141,8 @@ module _ {S Volume : Type 0} (disk : Ghosts S) (files : Volume → List ℕ → 
       (IsUnmade disk (WasClosed closes) (files volume file)) (inl (inl tt)))
       (is_lab_code lab) told
   never_done (serves file port count) input told =
-      no_serving before after told_before told_after status (file_keeper disk) (IsOurs disk (files volume file).holds) (IsOursAnywhere disk files)
-      (WasGivenUp closes files) (IsUnopened disk (WasClosed closes) (files volume file)) drawing count
+      no_serving before after told_before told_after status (file_keeper disk) (IsOurs disk (files volume file).holds) (IsOursAt disk files file)
+      (WasGivenUp closes files file) (IsToldAs (IsUnopenedAt disk (WasClosed closes) files file)) (IsUnopened disk (WasClosed closes) (files volume file)) drawing count
       (inl tt) told
   never_done (copies file lab from to) input told = no_copy_if (files volume file) (record {
     moments = drawing.moments;

@@ -1,7 +1,6 @@
 -- Of the tasks of one laboratory: its name is a code, or none is begun; and nothing was begun since
 -- memory ran out.
-use Rattle.std.proofs.Common.{◌≡◌, ℕ, List, [], Option, Some, None, Result, Err, Bool, true, false, inl}
-use Rattle.std.specs.Prelude.{IfSome}
+use Rattle.std.proofs.Common.{◌≡◌, ℕ, List, [], Option, Result, Err, Bool, true, false, inl, unwrap_or}
 use Rattle.std.specs.Io.KnownBytes.{Appends, Keeps}
 use Rattle.std.proofs.KnownBytes.{Appends-kept, Appends-nil}
 use Rattle.lab_forms_texts.specs.Faults.{NameFaultFits, memory_entry, name_fault_entry}
@@ -11,8 +10,9 @@ use Rattle.lab_forms_texts.specs.declared.refusals.Fault.{Fault}
 use Rattle.lab_forms_texts.specs.declared.refusals.Fault.TheVariants.{Refused, Memory as NoMemory}
 use Rattle.lab_forms_streams.specs.declared.sending.WriteFault.{WriteFault as Untold}
 use Rattle.lab_records_keeper.specs.declared.keeper.Keeper.{Ghosts as KeeperOf}
+use Rattle.lab_program_host.proofs.ReadLemmas.{all_of}
 use Rattle.lab_program_host.specs.TaskEnds.{TaskEnd}
-use Rattle.lab_program_serve.specs.RehearseTask.{FoundsBy, IsRehearsal}
+use Rattle.lab_program_serve.specs.RehearseTask.{IsRehearsal}
 use Rattle.lab_program_host.specs.declared.faults.RehearsalFault.TheVariants.{Server as RehearsalServer}
 use Rattle.lab_program_host.specs.declared.faults.ServerFault.TheVariants.{Memory as ServerMemory}
 use Rattle.lab_program_opening.specs.declared.faults.OpenFault.{OpenFault}
@@ -102,15 +102,11 @@ module _ (before after told_before told_after : Option (List ℕ)) (status : Res
   pub printed_none : Keeps before after → Appends before after []
   printed_none same = Appends-kept before before after [] (Appends-nil before) same
 
-  founds_none : (code : List ℕ) (body : Option (List ℕ)) → IfSome body (λ bytes. FoundsBy code bytes (Err (RehearsalServer ServerMemory)))
-  founds_none code None = tt
-  founds_none code (Some bytes) = tt
-
   pub no_rehearsal : (code : List ℕ) (body : Option (List ℕ)) → IsUnbegun before after told_before told_after status
       → IsRehearsal body code (seen before after told_before told_after status)
   no_rehearsal code body told = record {
     ending = Err (RehearsalServer ServerMemory);
-    founded = founds_none code body;
+    founded = (unwrap_or body [], all_of body, tt);
     printed = [];
     prints = tt;
     wrote = printed_none told.0;

@@ -18,13 +18,6 @@ use Rattle.lab_program_serve.specs.RehearseTask.{FoundsBy, IsRehearsal}
 use Rattle.lab_program_files.specs.Foundings.{Ends, EndsClosed, EndsFounding, EndsOver, FoundTask, IsFoundedAt, IsFounding, IsRefusedAt}
 use Rattle.lab_program.specs.Laboratories.{front_of}
 
--- what is said of the first bytes of an input, said of the input
-of_whole : (input : Option (List ℕ)) (P Q : List ℕ → Type 0) →
-    ((bytes : List ℕ) → P (take (body_limit + 1) bytes) → Q bytes) → IfSome (front_of input) P
-    → IfSome input Q
-of_whole None P Q so holds = tt
-of_whole (Some bytes) P Q so holds = so bytes holds
-
 front_says : (bytes : List ℕ) → founding_in (take (body_limit + 1) bytes) ≡ founding_in bytes
 front_says bytes = said_by_front (body_limit + 1) bytes (lit< tt)
 
@@ -96,7 +89,7 @@ module _ {S : Type 0} (keeper : KeeperOf S) (drawing : Drawing) (code : List ℕ
       → IfOk ending (EndsClosed keeper (task_of drawing code input) opened closed)
   unfolding over_whole
   closed_whole opened closed (Ok ending) ends =
-      (ends.0, (over_whole opened ending ends.1.0, ends.1.1), ends.2)
+      (over_whole opened ending ends.0, ends.1)
   closed_whole opened closed (Err fault) ends = tt
 
   -- a founding from the first bytes of an input is one from all of it
@@ -127,9 +120,12 @@ pub rehearsal_whole : (code : List ℕ) (input : Option (List ℕ)) (end : TaskE
     → IsRehearsal (front_of input) code end → IsRehearsal input code end
 rehearsal_whole code input end rehearsal = record {
   ending = rehearsal.ending;
-  founded = of_whole input (λ bytes. FoundsBy code bytes rehearsal.ending) (λ bytes. FoundsBy code bytes rehearsal.ending)
-      (λ bytes. founds_as code (take (body_limit + 1) bytes) bytes rehearsal.ending
-      (front_says bytes)) rehearsal.founded;
+  founded = (
+    whole_of input rehearsal.founded.0,
+    whole_is input rehearsal.founded.0,
+    founds_as code rehearsal.founded.0 (whole_of input rehearsal.founded.0) rehearsal.ending
+        (whole_says input rehearsal.founded.0 rehearsal.founded.1) rehearsal.founded.2,
+  );
   printed = rehearsal.printed;
   prints = rehearsal.prints;
   wrote = rehearsal.wrote;

@@ -1,22 +1,28 @@
 -- What `labdesk` does for words that ask for a task.
-use Rattle.std.specs.Prelude.{List, ℕ, Option, Result, IfSome, nat_le}
+use Rattle.std.specs.Prelude.{List, ℕ, Option, Result, Ok, Err, nat_le}
 use Rattle.sqlite_trees.specs.declared.store.Store.{Ghosts}
 use Rattle.sqlite.specs.declared.error.Error.{Error}
 use Rattle.sqlite.specs.Held.{Held}
-use Rattle.lab_copy_rows.specs.Copies.{verdict}
-use Rattle.lab_copy.specs.Checks.{csv_rows_of}
+use Rattle.lab_copy.specs.Checks.{OfVerdict}
 use Rattle.lab_program_check.specs.Verdicts.{IsCheck}
+use Rattle.lab_forms_streams.specs.declared.sending.WriteFault.{WriteFault as Untold}
 use Rattle.lab_program_host.specs.Sources.{Drawing}
 use Rattle.lab_program_host.specs.TaskEnds.{TaskEnd}
 use Rattle.lab_program_files.specs.FileWorlds.{file_keeper}
 use Rattle.lab_program_opening.specs.Ends.{WasClosed, WasGivenUp}
-use Rattle.lab_program_opening.specs.Files.{IsOurs, IsOursAnywhere, IsUnopened}
+use Rattle.lab_program_opening.specs.Files.{IsOurs, IsOursAt, IsUnopened, IsUnopenedAt}
 use Rattle.lab_program_opening.specs.Volumes.{FileAt}
 use Rattle.lab_program_replay.specs.Replays.{IsReplay}
-use Rattle.lab_program_files.specs.Serving.{ServesFile}
+use Rattle.lab_program_files.specs.Serving.{IsToldAs, ServesFile}
 use Rattle.lab_program_moves.specs.Moves.{IsMigration}
 use Rattle.lab_program.specs.Laboratories.{IsCopiedIf, IsFounded, IsRehearsed}
 use Rattle.lab_program_words.specs.Tasks.{Asked, founds, serves, copies, migrates, checks, replays, rehearses}
+
+-- the status of the program, by the end of its task: that of a fault where standard error failed
+-- before the fault was told. A task's status is 0 where all was done, and else 1
+abbrev pub exit_status : Result ℕ Untold → ℕ
+exit_status (Ok status) = status
+exit_status (Err untold) = 1
 
 -- what is asked for is done, from this input, at the moment and with the words that were drawn,
 -- over files of whose paths the volume says what was known, each of which was closed as it was left.
@@ -29,7 +35,8 @@ module _ {S Volume : Type 0} (disk : Ghosts S) (files : Volume → List ℕ → 
       (record { drawing = drawing; code = lab; body = input }) end
   IsDone drawing (serves file port count) input end =
       ServesFile (file_keeper disk) (IsOurs disk (files volume file).holds)
-      (IsOursAnywhere disk files) (WasGivenUp closes files)
+      (IsOursAt disk files file) (WasGivenUp closes files file)
+      (IsToldAs (IsUnopenedAt disk (WasClosed closes) files file))
       (IsUnopened disk (WasClosed closes) (files volume file)) drawing count end
   IsDone drawing (copies file lab from to) input end =
       IsCopiedIf disk (files volume file) (WasClosed closes) (record {
@@ -42,9 +49,8 @@ module _ {S Volume : Type 0} (disk : Ghosts S) (files : Volume → List ℕ → 
   IsDone drawing (migrates old new) input end =
       IsMigration disk files (WasClosed closes)
       (record { volume = volume; old = old; new = new }) end
-  IsDone drawing checks input end = IfSome input (λ bytes.
-      IsCheck (verdict (csv_rows_of bytes)) end.status end.before end.after end.told_before
-      end.told_after)
+  IsDone drawing checks input end = OfVerdict input (λ verdict.
+      IsCheck verdict end.status end.before end.after end.told_before end.told_after)
   IsDone drawing replays input end =
       IsReplay input end.before end.after end.told_before end.told_after end.status
   IsDone drawing (rehearses lab moment) input end = IsRehearsed lab input end

@@ -1,10 +1,11 @@
 //! The command line: words are read, and what they ask for is done.
 
-ghost use Rattle.std.specs.Prelude.{map};
+ghost use Rattle.std.specs.Prelude.{◌≡◌, ℕ, Result, map};
 ghost use Rattle.clap.specs.Words.{fault_of};
 ghost use Rattle.lab_program_host.specs.Hosts.{drawing_between, end_between};
 ghost use Rattle.lab_program_app.specs.Apps.{labdesk_app};
-ghost use Rattle.lab_program.specs.CommandLine.{IsDone};
+ghost use Rattle.lab_forms_streams.specs.declared.sending.WriteFault.{WriteFault as Untold};
+ghost use Rattle.lab_program.specs.CommandLine.{IsDone, exit_status};
 ghost use Rattle.lab_program_app.specs.Explaining.{IsExplained};
 ghost use Rattle.lab_program_words.specs.Tasks.{Asked, AsksTask, IsTask};
 
@@ -20,6 +21,9 @@ use lab_program_words::{Task, task_of};
 use sqlite::Connection;
 use std::convert::AsStr;
 use std::io::Read;
+
+/// The status if a fault could not be printed either: that of a fault.
+pub const UNTOLD: u8 = 1;
 
 // Does a task, and answers the status.
 fn do_task<M: Outside<Volume: Volume, Progress: Progress>, R: Read + Drop, W: Writers>(
@@ -60,12 +64,12 @@ where
 ///
 /// # Errors
 /// A fault of status 1 could not be told whole, as standard error failed.
-pub fn labdesk<
-    M: Outside<Volume: Volume, Progress: Progress>,
-    S: AsStr,
-    R: Read + Drop,
-    W: Writers,
->(host: &mut Host<'_, M>, words: &[S], input: R, streams: &mut Streams<W>) -> Result<u8, WriteFault>
+fn labdesk<M: Outside<Volume: Volume, Progress: Progress>, S: AsStr, R: Read + Drop, W: Writers>(
+    host: &mut Host<'_, M>,
+    words: &[S],
+    input: R,
+    streams: &mut Streams<W>,
+) -> Result<u8, WriteFault>
 where
     Connection<<M::Volume as Volume>::Disk>: Closable,
     ensures done { (asked : Asked) → AsksTask asked (map S.text words.now) →
@@ -80,5 +84,31 @@ where
     match task_of(host.alloc, words) {
         Ok(task) => do_task(host, task, input, streams),
         Err(error) => explain(&error, &mut streams.output, &mut streams.errors),
+    }
+}
+
+/// `labdesk`, with the status of the program: 0 if everything that the words ask for was done.
+pub fn status_of<
+    M: Outside<Volume: Volume, Progress: Progress>,
+    S: AsStr,
+    R: Read + Drop,
+    W: Writers,
+>(host: &mut Host<'_, M>, words: &[S], input: R, streams: &mut Streams<W>) -> u8
+where
+    Connection<<M::Volume as Volume>::Disk>: Closable,
+    ensures done { (asked : Asked) → AsksTask asked (map S.text words.now) →
+        (status : Result ℕ Untold) × (result ≡ exit_status status)
+        × IsDone M.Volume.Disk.Store M.Volume.file
+        ⟦<Connection<<M::Volume as Volume>::Disk> as Closable>⟧.closes host.old.volume
+        (drawing_between M.Clock.coming M.Chance.coming host.old host.new) asked (R.remaining input)
+        (end_between W.Output.contents W.Errors.contents streams.old streams.new status) }
+    ensures explained { (status : Result ℕ Untold) × (result ≡ exit_status status)
+        × IsExplained (fault_of labdesk_app (map S.text words.now))
+        (W.Output.contents streams.old.output) (W.Output.contents streams.new.output)
+        (W.Errors.contents streams.old.errors) (W.Errors.contents streams.new.errors) status }
+{
+    match labdesk(host, words, input, streams) {
+        Ok(status) => status,
+        Err(_untold) => UNTOLD,
     }
 }

@@ -1,8 +1,6 @@
 //! The check of a copy, and what is printed besides for a person at a terminal.
 
-ghost use Rattle.std.specs.Prelude.{IfSome};
-ghost use Rattle.lab_copy_rows.specs.Copies.{verdict};
-ghost use Rattle.lab_copy.specs.Checks.{csv_rows_of};
+ghost use Rattle.lab_copy.specs.Checks.{OfVerdict};
 ghost use Rattle.lab_program_check.specs.Verdicts.{IsCheck};
 
 use lab_forms_streams::WriteFault;
@@ -27,7 +25,7 @@ pub fn check_for<M: Outside<Volume: Volume>, R: Read + Drop, W: Writers>(
     input: R,
     streams: &mut Streams<W>,
 ) -> Result<u8, WriteFault>
-    ensures { IfSome (R.remaining input) (λ bytes. IsCheck (verdict (csv_rows_of bytes)) result
+    ensures { OfVerdict (R.remaining input) (λ verdict. IsCheck verdict result
         (W.Output.contents streams.old.output) (W.Output.contents streams.new.output)
         (W.Errors.contents streams.old.errors) (W.Errors.contents streams.new.errors)) }
 {

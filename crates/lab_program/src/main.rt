@@ -6,7 +6,7 @@ mod command_line;
 mod copies;
 mod laboratories;
 
-use command_line::labdesk;
+use command_line::{UNTOLD, status_of};
 use lab_program_files::{Host, Streams};
 use lab_program_machine::{
     Console, HostVolume, Machine, Supposed, SystemChance, SystemClock, TerminalProgress,
@@ -14,9 +14,6 @@ use lab_program_machine::{
 use sqlite::Wary;
 use std::io::{self, ErrorKind, Write};
 use std::process::ExitCode;
-
-/// The status where a fault could not be told either: that of a fault.
-const UNTOLD: u8 = 1;
 
 /// What is printed about words that are no text, as clap prints a fault in words; and the status.
 const NO_TEXT: &str = "error: invalid UTF-8 was detected in one or more arguments
@@ -29,7 +26,7 @@ For more information, try '--help'.
 const NO_TEXT_STATUS: u8 = 2;
 
 // Does what the words ask for, over files of which this is supposed, and answers the status.
-fn status_of<S: Supposed>(rt: &HostRuntime, words: &[String], start: S) -> u8 {
+fn run_on<S: Supposed>(rt: &HostRuntime, words: &[String], start: S) -> u8 {
     let mut host: Host<'_, Machine<'_, S>> = Host {
         alloc: rt.alloc(),
         net: rt,
@@ -42,8 +39,7 @@ fn status_of<S: Supposed>(rt: &HostRuntime, words: &[String], start: S) -> u8 {
         output: rt.stdout(),
         errors: rt.stderr(),
     };
-    let status = labdesk(&mut host, words, rt.stdin(), &mut streams);
-    status.unwrap_or(UNTOLD)
+    status_of(&mut host, words, rt.stdin(), &mut streams)
 }
 
 // Tells why there are no words, and answers the status.
@@ -64,7 +60,7 @@ fn words_of(rt: &HostRuntime) -> io::Result<Vec<String>> {
 
 fn main(rt: HostRuntime) -> ExitCode {
     let status = match words_of(&rt) {
-        Ok(words) => status_of(&rt, &words, Wary),
+        Ok(words) => run_on(&rt, &words, Wary),
         Err(error) => refuse_words(&rt, &error),
     };
     ExitCode::from(status)

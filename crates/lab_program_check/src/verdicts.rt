@@ -1,7 +1,6 @@
 //! The check of a copy from a reader, and the line that says what was found.
-ghost use Rattle.std.specs.Prelude.{◌≡◌, ◌≢◌, IfOk, IfErr, IfSome, IsSome};
-ghost use Rattle.lab_copy_rows.specs.Copies.{verdict};
-ghost use Rattle.lab_copy.specs.Checks.{csv_rows_of};
+ghost use Rattle.std.specs.Prelude.{◌≡◌, ◌≢◌, IfOk, IfErr, IsSome};
+ghost use Rattle.lab_copy.specs.Checks.{OfVerdict};
 ghost use Rattle.lab_program_check.specs.declared.faults.StopFault.TheVariants.{Write as NotWritten};
 ghost use Rattle.lab_program_check.specs.Verdicts.{good_line, bad_line, status_of, IsFlaw, IsFound, IsVerdictTold, IsCheck};
 
@@ -52,10 +51,8 @@ fn bad_line(alloc: Global, flaw: Flaw) -> Result<String, OutOfMemory>
 
 // What is found in the copy from a reader.
 fn look_over<R: Read + Drop>(alloc: Global, input: R) -> Result<Found, StopFault>
-    ensures found { IfOk result (λ found. IfSome (R.remaining input) (λ bytes.
-        IsFound (verdict (csv_rows_of bytes)) found.line.bytes.items found.status)) }
-    ensures flaw { IfOk result (λ found. IfSome (R.remaining input) (λ bytes.
-        IsFlaw (verdict (csv_rows_of bytes)) found.flaw)) }
+    ensures found { OfVerdict (R.remaining input) (λ verdict. IfOk result (λ found.
+        IsFound verdict found.line.bytes.items found.status × IsFlaw verdict found.flaw)) }
     ensures fault { IfErr result (λ fault. fault ≢ NotWritten) }
 {
     let mut input = input;
@@ -81,10 +78,9 @@ fn tell_found<R: Read + Drop, W: Write>(
     input: R,
     output: &mut W,
 ) -> Result<Checked, StopFault>
-    ensures told { IfSome (R.remaining input) (λ bytes. IsVerdictTold (verdict (csv_rows_of bytes))
-        (status_of result) (W.contents output.old) (W.contents output.new)) }
-    ensures flaw { IfOk result (λ checked. IfSome (R.remaining input) (λ bytes.
-        IsFlaw (verdict (csv_rows_of bytes)) checked.flaw)) }
+    ensures { OfVerdict (R.remaining input) (λ verdict.
+        IsVerdictTold verdict (status_of result) (W.contents output.old) (W.contents output.new)
+        × IfOk result (λ checked. IsFlaw verdict checked.flaw)) }
 {
     let found = look_over(alloc, input)?;
     match write_whole(output, found.line.as_bytes()) {
@@ -110,11 +106,10 @@ pub fn check<R: Read + Drop, W: Write, E: Write>(
     output: &mut W,
     errors: &mut E,
 ) -> Result<Checked, WriteFault>
-    ensures checks { IfSome (R.remaining input) (λ bytes. IsCheck (verdict (csv_rows_of bytes))
-        (status_of result) (W.contents output.old) (W.contents output.new)
-        (E.contents errors.old) (E.contents errors.new)) }
-    ensures flaw { IfOk result (λ checked. IfSome (R.remaining input) (λ bytes.
-        IsSome checked.flaw → IsFlaw (verdict (csv_rows_of bytes)) checked.flaw)) }
+    ensures { OfVerdict (R.remaining input) (λ verdict.
+        IsCheck verdict (status_of result) (W.contents output.old) (W.contents output.new)
+        (E.contents errors.old) (E.contents errors.new)
+        × IfOk result (λ checked. IsSome checked.flaw → IsFlaw verdict checked.flaw)) }
 {
     match tell_found(alloc, input, output) {
         Ok(checked) => Ok(checked),

@@ -1,5 +1,5 @@
 -- How a founding over a keeper ends, and what is printed of it.
-use Rattle.std.proofs.Common.{◌≡◌, ℕ, List, [], Option, None, Some, unwrap_or, refl, subst, sym}
+use Rattle.std.proofs.Common.{◌≡◌, ℕ, List, [], Option, None, unwrap_or, refl, subst, sym}
 use Rattle.std.specs.Prelude.{Err, IfErr, IfSome, Ok, Result}
 use Rattle.std.specs.Io.KnownBytes.{Keeps}
 use Rattle.lab_forms_texts.specs.declared.tick.Tick.{Tick}
@@ -13,7 +13,7 @@ use Rattle.lab_desk_events.specs.Keeping.{Stays}
 use Rattle.lab_program_host.specs.declared.faults.ServerFault.{ServerFault}
 use Rattle.lab_program_host.specs.declared.faults.ServerFault.TheVariants.{Memory, Read, Write}
 use Rattle.lab_program_host.specs.Faults.{IsReaderFault}
-use Rattle.lab_program_host.proofs.ReadLemmas.{known_as}
+use Rattle.lab_program_host.proofs.ReadLemmas.{all_of, known_as}
 use Rattle.lab_program_host.specs.declared.faults.RehearsalFault.{RehearsalFault as FoundingFault}
 use Rattle.lab_program_host.specs.declared.faults.RehearsalFault.TheVariants.{Founding, Server}
 use Rattle.lab_program_host.specs.Sources.{Drawing, IsDrawn, drawing_of}
@@ -35,11 +35,6 @@ undrawn = drawing_of None None None None
 
 abbrev pub task_of : Drawing → List ℕ → Option (List ℕ) → FoundTask
 task_of drawing code body = record { drawing = drawing; code = code; body = body }
-
--- all of an input, where it is known
-all_of : (known : Option (List ℕ)) → IfSome known (λ all. unwrap_or known [] ≡ all)
-all_of None = tt
-all_of (Some all) = refl
 
 module _ {S : Type 0} (keeper : Ghosts S) (drawing : Drawing) (code : List ℕ) where
   idle : (known : Option (List ℕ)) (bytes : List ℕ) (kept : S) (fault : ServerFault) →

@@ -1,6 +1,8 @@
 -- A server over a file.
 use Rattle.std.proofs.Common.{◌≡◌, ℕ, Option, Some, None, subst, sym}
 use Rattle.std.specs.Prelude.{IfSome, IsSomeAnd, option_map}
+use Rattle.lab_forms_texts.specs.declared.refusals.Fault.{Fault}
+use Rattle.lab_records_keeper.specs.declared.faults.BadStore.{BadStore}
 use Rattle.lab_records_keeper.specs.declared.keeper.Keeper.{Ghosts}
 use Rattle.lab_desk.specs.Desk.{Served}
 use Rattle.lab_program_host.specs.Sources.{Drawing}
@@ -10,13 +12,13 @@ use Rattle.lab_program_opening.specs.declared.faults.OpenFault.{OpenFault}
 use Rattle.lab_program_files.specs.Serving.{ServesTo}
 
 module _ {S : Type 0} (keeper : Ghosts S) (found opened closed : S → Type 0)
-    (unopened : OpenFault → Type 0) (drawing : Drawing) (count : ℕ) (end : TaskEnd) where
+    (unmended : Fault BadStore → Type 0) (unopened : OpenFault → Type 0) (drawing : Drawing) (count : ℕ) (end : TaskEnd) where
   -- served from the keeper that was found, which is one that was opened
   pub serves_to : (first left : Option (Served S)) (finished : Option S) →
       IsSomeAnd first (λ desk. found desk.keeper) →
-      IsServing keeper opened closed first left drawing count end →
+      IsServing keeper opened closed unmended first left drawing count end →
       finished ≡ option_map (λ desk. desk.keeper) left →
-      ServesTo keeper found opened closed unopened drawing count end finished
+      ServesTo keeper found opened closed unmended unopened drawing count end finished
   serves_to None left finished there serving is = absurd there
   serves_to (Some desk) left finished there serving is = (desk, left, there, serving, is)
 

@@ -100,16 +100,13 @@ module _ {S : Type 0} (keeper : Ghosts S) (task : FoundTask) where
     EndsOver ending = (old : S) × (new : S) × opened old × Ends old new ending
         × Passes (keeper.world old) (keeper.world new)
 
-    -- so it ended; and what is left to be closed is the keeper as the founding left it, unless
-    -- memory ran out before there was a desk
+    -- so it ended; and what is left to be closed is the keeper as the founding left it
     abbrev pub EndsAs : Result (Unit {0}) FoundingFault → Option S → Type 0
-    EndsAs ending finished = (ends : EndsOver ending) × ((finished ≡ Some ends.1)
-        ⊎ ((finished ≡ None) × (ending ≡ Err (Server Memory))))
+    EndsAs ending finished = (ends : EndsOver ending) × (finished ≡ Some ends.1)
 
-    -- so it ended, and what was left to be closed was closed
+    -- so it ended, and the keeper was closed as the founding left it
     abbrev pub EndsClosed : (S → Type 0) → Result (Unit {0}) FoundingFault → Type 0
-    EndsClosed closed ending =
-        (finished : Option S) × EndsAs ending finished × IfSome finished closed
+    EndsClosed closed ending = (ends : EndsOver ending) × closed ends.1
 
     -- the task `found`, by its status, what was printed and what was told: where the file wasn't
     -- made or opened, that has its cause, and nothing was printed

@@ -1,23 +1,38 @@
 -- Serving the laboratories of a file.
-use Rattle.std.specs.Prelude.{◌≡◌, ◌⊎◌, ℕ, Option, Some, None, option_map, IfSome}
+use Rattle.std.specs.Prelude.{◌≡◌, ◌⊎◌, ℕ, Option, Some, option_map, IfSome}
 use Rattle.std.specs.Io.KnownBytes.{Keeps}
+use Rattle.lab_forms_texts.specs.declared.refusals.Fault.{Fault}
+use Rattle.lab_forms_texts.specs.declared.refusals.Fault.TheVariants.{Memory, Refused}
+use Rattle.lab_records_keeper.specs.declared.faults.BadStore.{BadStore}
 use Rattle.lab_records_keeper.specs.declared.keeper.Keeper.{Ghosts}
+use Rattle.lab_store_files.specs.declared.faults.FileFault.TheVariants.{Memory as OutOfMemory}
 use Rattle.lab_desk.specs.Desk.{Served}
 use Rattle.lab_program_host.specs.Sources.{Drawing}
 use Rattle.lab_program_serve.specs.ServeTask.{IsServing}
 use Rattle.lab_program_host.specs.TaskEnds.{TaskEnd}
 use Rattle.lab_forms_streams.specs.Sending.{read_fault_word}
 use Rattle.lab_program_opening.specs.declared.faults.OpenFault.{OpenFault}
+use Rattle.lab_program_opening.specs.declared.faults.OpenFault.TheVariants.{File}
 use Rattle.lab_program_opening.specs.Faults.{Declines, TellsWord}
 
+-- the fault with which requests are refused while the file isn't opened
+abbrev pub keeper_fault : OpenFault → Fault BadStore
+keeper_fault (File OutOfMemory) = Memory
+keeper_fault _ = Refused (record {})
+
+-- a fault that stands for one of which this holds
+abbrev pub IsToldAs : (OpenFault → Type 0) → Fault BadStore → Type 0
+IsToldAs Holds told = (fault : OpenFault) × Holds fault × (told ≡ keeper_fault fault)
+
 module _ {S : Type 0} (keeper : Ghosts S) (found opened closed : S → Type 0)
-    (unopened : OpenFault → Type 0) (drawing : Drawing) (count : ℕ) (end : TaskEnd) where
+    (unmended : Fault BadStore → Type 0) (unopened : OpenFault → Type 0) (drawing : Drawing) (count : ℕ) (end : TaskEnd) where
   -- from the keeper of the file that was found on so many connections were served, unless a fault
   -- came, which was told; over each keeper that was opened each laboratory stays within its limits
-  -- and has all that was recorded; and this one is left to be closed
+  -- and has all that was recorded; and this one is left to be closed. Requests that came while none
+  -- was open were refused, since the file couldn't be opened
   abbrev pub ServesTo : Option S → Type 0
   ServesTo finished = (first : Served S) × (left : Option (Served S)) × found first.keeper
-      × IsServing keeper opened closed (Some first) left drawing count end
+      × IsServing keeper opened closed unmended (Some first) left drawing count end
       × (finished ≡ option_map (λ desk. desk.keeper) left)
 
   -- nothing was served, and why was told: the file wasn't opened, which has its cause, or memory ran
@@ -32,11 +47,11 @@ module _ {S : Type 0} (keeper : Ghosts S) (found opened closed : S → Type 0)
   DeclinesToListen = Keeps end.before end.after
       × TellsWord read_fault_word end.status end.told_before end.told_after
 
-  -- so it ended, by what is left to be closed: where no port was listened at, it is the keeper that
-  -- was found, if any was
+  -- so it ended, by what is left to be closed: where nothing was served, it is the keeper that was
+  -- found, if any was
   abbrev pub ServesAs : Option S → Type 0
-  ServesAs finished = ServesTo finished ⊎ (DeclinesToServe × (finished ≡ None))
-      ⊎ (DeclinesToListen × IfSome finished found)
+  ServesAs finished = ServesTo finished
+      ⊎ ((DeclinesToServe ⊎ DeclinesToListen) × IfSome finished found)
 
   -- the task `serve`: what was left to be closed was closed
   abbrev pub ServesFile : Type 0

@@ -158,11 +158,14 @@ where
             };
         }
     };
-    let Ok(mut desk) = Desk::new(host.alloc, store) else {
-        return Ended {
-            ending: Ok(Err(FoundingFault::Server(ServerFault::Memory))),
-            finished: None,
-        };
+    let mut desk = match Desk::new(host.alloc, store) {
+        Ok(desk) => desk,
+        Err(unmade) => {
+            return Ended {
+                ending: Ok(Err(FoundingFault::Server(ServerFault::Memory))),
+                finished: Some(Finished::new(unmade.keeper.into_connection())),
+            };
+        }
     };
     let ending = found_over(host, &mut desk, lab, body, output);
     let left = desk.into_keeper().into_connection();

@@ -1,6 +1,8 @@
 //! Who opens the file at a path, and opens it anew.
 
+ghost use Rattle.std.specs.Prelude.{◌≡◌, ℕ, List};
 ghost use Rattle.lab_program_opening.specs.Ends.{WasGivenUp};
+ghost use Rattle.lab_program_files.specs.Serving.{keeper_fault};
 
 use crate::files::open_file;
 use lab_program_opening::{Closable, Finished, OpenFault, Volume};
@@ -10,17 +12,38 @@ use lab_store::Store;
 use lab_store_files::FileFault;
 use sqlite::Connection;
 use std::alloc::Global;
+use std::marker::{Brand, PhantomData};
+
+/// The path of a file, in the type of who opens it, so that the contracts of whoever serves can say
+/// which file was opened.
+pub trait AtPath {
+    /// The path.
+    ghost path: { List ℕ };
+}
+
+impl AtPath for Brand {
+    ghost use Rattle.std.specs.Prelude.{[]};
+
+    ghost path = { [] };
+}
 
 /// Who opens the file of laboratories at a path.
 #[derive(Drop)]
-pub struct FileOpener<'a> {
+pub struct FileOpener<'a, P: AtPath> {
     path: &'a str,
+    of: PhantomData<P>,
+    ghost named: { path.now ≡ P.path },
 }
 
-impl<'a> FileOpener<'a> {
+impl<'a, P: AtPath> FileOpener<'a, P> {
     /// Who opens the file at the path.
-    pub fn new(path: &'a str) -> FileOpener<'a> {
-        FileOpener { path }
+    pub fn new(path: &'a str) -> FileOpener<'a, P>
+        requires { path.now ≡ P.path }
+    {
+        FileOpener {
+            path,
+            of: PhantomData,
+        }
     }
 }
 
@@ -29,7 +52,7 @@ impl<'a> FileOpener<'a> {
 pub fn close_uncut<H: Volume>(volume: &mut H, path: &str, finished: Finished<H::Disk>)
 where
     Connection<H::Disk>: Closable,
-    ensures { WasGivenUp ⟦<Connection<H::Disk> as Closable>⟧.closes H.file finished }
+    ensures { WasGivenUp ⟦<Connection<H::Disk> as Closable>⟧.closes H.file path.now finished }
 {
     if volume.is_cut(path) {
         finished.let_go();
@@ -40,25 +63,31 @@ where
 }
 
 // Why no keeper was opened.
-fn opening_fault(fault: OpenFault) -> KeeperFault {
+fn opening_fault(fault: OpenFault) -> KeeperFault
+    ensures { result ≡ keeper_fault fault }
+{
     match fault {
         OpenFault::File(FileFault::Memory) => KeeperFault::Memory,
         _ => KeeperFault::Refused(BadStore),
     }
 }
 
-impl<'a, H: Volume> Opener<H, Store<H::Disk>> for FileOpener<'a>
+impl<'a, P: AtPath, H: Volume> Opener<H, Store<H::Disk>> for FileOpener<'a, P>
 where
     Connection<H::Disk>: Closable,
 {
-    ghost use Rattle.lab_program_opening.specs.Ends.{WasGivenUp};
-    ghost use Rattle.lab_program_opening.specs.Files.{IsOursAnywhere};
+    ghost use Rattle.lab_program_opening.specs.Ends.{WasClosed, WasGivenUp};
+    ghost use Rattle.lab_program_opening.specs.Files.{IsOursAt, IsUnopenedAt};
+    ghost use Rattle.lab_program_files.specs.Serving.{IsToldAs};
 
     type Finished = Finished<H::Disk>;
 
-    ghost opened = { IsOursAnywhere H.Disk.Store H.file };
+    ghost opened = { IsOursAt H.Disk.Store H.file P.path };
 
-    ghost closed = { WasGivenUp ⟦<Connection<H::Disk> as Closable>⟧.closes H.file };
+    ghost unopened = { IsToldAs (IsUnopenedAt H.Disk.Store
+        (WasClosed ⟦<Connection<H::Disk> as Closable>⟧.closes) H.file P.path) };
+
+    ghost closed = { WasGivenUp ⟦<Connection<H::Disk> as Closable>⟧.closes H.file P.path };
 
     ghost keeper_of = { λ finished. finished };
 

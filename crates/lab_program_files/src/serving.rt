@@ -2,47 +2,81 @@
 
 ghost use Rattle.lab_program_files.specs.FileWorlds.{file_keeper};
 ghost use Rattle.lab_program_opening.specs.Ends.{WasClosed, WasGivenUp};
-ghost use Rattle.lab_program_opening.specs.Files.{IsOurs, IsOursAnywhere, IsUnopened};
+ghost use Rattle.lab_program_opening.specs.Files.{IsOurs, IsOursAt, IsUnopened, IsUnopenedAt};
 ghost use Rattle.lab_program_opening.specs.Faults.{Declines};
-ghost use Rattle.lab_program_files.specs.Serving.{ServesAs, ServesFile};
+ghost use Rattle.lab_program_files.specs.Serving.{IsToldAs, ServesAs, ServesFile};
 ghost use Rattle.lab_program_host.specs.Hosts.{drawing_between, end_between};
-ghost use Rattle.std.specs.Prelude.{◌≡◌, option_map, IfErr, IfOk, IsSomeAnd};
+ghost use Rattle.std.specs.Prelude.{◌≡◌, option_map, IfErr, IfOk, IfSome, IsSomeAnd};
 
 use crate::files::open_file;
-use crate::opening::{FileOpener, close_uncut};
+use crate::opening::{AtPath, FileOpener, close_uncut};
 use lab_forms_streams::WriteFault;
 use lab_program_host::{Host, Outside, ServerFault, Streams, Writers};
 use lab_program_opening::{
     Additions, Closable, Ended, Finished, OpenFault, Trouble, Volume, decline, decline_by,
     decline_to_open,
 };
-use lab_program_serve::{Desk, LiveDesk, listen};
+use lab_program_serve::{Desk, LiveDesk, Unmade, listen};
 use lab_store::Store;
+use lab_store_files::FileFault;
 use sqlite::{Alter, Connection};
 use std::alloc::Global;
 use std::io::Write;
+use std::marker::Brand;
 
-// A live desk with a desk over the file at the path.
-fn live_desk_opened<'p, H: Volume>(
+// A live desk with a desk over a store of the file at the path. Without memory the store is handed
+// back.
+fn live_desk_over<P: AtPath, S: Alter + Drop>(
+    alloc: Global,
+    path: &str,
+    store: Store<S>,
+) -> Result<LiveDesk<Store<S>, FileOpener<'_, P>>, Unmade<Store<S>>>
+    requires { path.now ≡ P.path }
+    ensures live { IfOk result (λ live_desk. IsSomeAnd live_desk (λ desk. desk.keeper ≡ store)) }
+    ensures unmade { IfErr result (λ unmade. unmade.keeper ≡ store) }
+{
+    let desk = Desk::new(alloc, store)?;
+    LiveDesk::new(alloc, FileOpener::new(path), desk)
+}
+
+// A live desk with a desk over the file at the path. If there is no memory for it, the connection
+// is left to be closed.
+fn live_desk_opened<'p, P: AtPath, H: Volume>(
     alloc: Global,
     volume: &mut H,
     path: &'p str,
-) -> Result<LiveDesk<Store<H::Disk>, FileOpener<'p>>, OpenFault>
+) -> Result<LiveDesk<Store<H::Disk>, FileOpener<'p, P>>, Ended<OpenFault, H::Disk>>
 where
     Connection<H::Disk>: Closable,
+    requires { path.now ≡ P.path }
     ensures ours { IfOk result (λ live_desk. IsSomeAnd live_desk (λ desk.
         IsOurs H.Disk.Store (H.file volume.old path.now).holds desk.keeper)) }
-    ensures unopened { IfErr result (IsUnopened H.Disk.Store
+    ensures unopened { IfErr result (λ unopened. IsUnopened H.Disk.Store
         (WasClosed ⟦<Connection<H::Disk> as Closable>⟧.closes)
-        (H.file volume.old path.now)) }
+        (H.file volume.old path.now) unopened.ending) }
+    ensures left { IfErr result (λ unopened. IfSome unopened.finished
+        (IsOurs H.Disk.Store (H.file volume.old path.now).holds)) }
 {
-    let store = open_file(alloc, volume, path)?;
+    let store = match open_file(alloc, volume, path) {
+        Ok(store) => store,
+        Err(fault) => {
+            return Err(Ended {
+                ending: fault,
+                finished: None,
+            });
+        }
+    };
     let additions = Additions::of(store.schema());
     if !additions.are_none() {
         volume.remark(path, additions);
     }
-    let desk = Desk::new(alloc, store)?;
-    Ok(LiveDesk::new(alloc, FileOpener::new(path), desk)?)
+    match live_desk_over(alloc, path, store) {
+        Ok(live_desk) => Ok(live_desk),
+        Err(unmade) => Err(Ended {
+            ending: OpenFault::File(FileFault::Memory),
+            finished: Some(Finished::new(unmade.keeper.into_connection())),
+        }),
+    }
 }
 
 // Tells why no file was opened to be served, and answers the status of a fault.
@@ -65,7 +99,9 @@ fn decline_to_serve<M: Outside<Volume: Volume>, E: Write>(
 }
 
 // What a live desk leaves to be closed.
-fn left_of<S: Alter + Drop>(live_desk: LiveDesk<Store<S>, FileOpener<'_>>) -> Option<Finished<S>>
+fn left_of<P: AtPath, S: Alter + Drop>(
+    live_desk: LiveDesk<Store<S>, FileOpener<'_, P>>,
+) -> Option<Finished<S>>
     ensures { result ≡ option_map (λ desk. desk.keeper) live_desk.entry }
 {
     let store = live_desk.into_keeper()?;
@@ -74,7 +110,7 @@ fn left_of<S: Alter + Drop>(live_desk: LiveDesk<Store<S>, FileOpener<'_>>) -> Op
 
 // Serves the laboratories of the file at the path. Answers the status, and the connection, which is
 // left to be closed.
-fn serve_file<M: Outside<Volume: Volume>, W: Writers>(
+fn serve_file<P: AtPath, M: Outside<Volume: Volume>, W: Writers>(
     host: &mut Host<'_, M>,
     path: &str,
     port: u16,
@@ -83,10 +119,15 @@ fn serve_file<M: Outside<Volume: Volume>, W: Writers>(
 ) -> Ended<Result<u8, WriteFault>, <M::Volume as Volume>::Disk>
 where
     Connection<<M::Volume as Volume>::Disk>: Closable,
+    requires { path.now ≡ P.path }
     ensures { ServesAs (file_keeper M.Volume.Disk.Store)
         (IsOurs M.Volume.Disk.Store (M.Volume.file host.old.volume path.now).holds)
-        (IsOursAnywhere M.Volume.Disk.Store M.Volume.file)
-        (WasGivenUp ⟦<Connection<<M::Volume as Volume>::Disk> as Closable>⟧.closes M.Volume.file)
+        (IsOursAt M.Volume.Disk.Store M.Volume.file P.path)
+        (WasGivenUp ⟦<Connection<<M::Volume as Volume>::Disk> as Closable>⟧.closes M.Volume.file
+        P.path)
+        (IsToldAs (IsUnopenedAt M.Volume.Disk.Store
+        (WasClosed ⟦<Connection<<M::Volume as Volume>::Disk> as Closable>⟧.closes)
+        M.Volume.file P.path))
         (IsUnopened M.Volume.Disk.Store
         (WasClosed ⟦<Connection<<M::Volume as Volume>::Disk> as Closable>⟧.closes)
         (M.Volume.file host.old.volume path.now))
@@ -94,12 +135,16 @@ where
         (end_between W.Output.contents W.Errors.contents streams.old streams.new result.ending)
         result.finished }
 {
-    let mut live_desk = match live_desk_opened(host.alloc, &mut host.volume, path) {
+    let mut live_desk = match live_desk_opened::<P, M::Volume>(host.alloc, &mut host.volume, path) {
         Ok(live_desk) => live_desk,
-        Err(fault) => {
+        Err(unopened) => {
+            let Ended {
+                ending: fault,
+                finished,
+            } = unopened;
             return Ended {
                 ending: decline_to_serve(host, &mut streams.errors, path, port, fault),
-                finished: None,
+                finished,
             };
         }
     };
@@ -136,15 +181,19 @@ where
     Connection<<M::Volume as Volume>::Disk>: Closable,
     ensures { ServesFile (file_keeper M.Volume.Disk.Store)
         (IsOurs M.Volume.Disk.Store (M.Volume.file host.old.volume path.now).holds)
-        (IsOursAnywhere M.Volume.Disk.Store M.Volume.file)
-        (WasGivenUp ⟦<Connection<<M::Volume as Volume>::Disk> as Closable>⟧.closes M.Volume.file)
+        (IsOursAt M.Volume.Disk.Store M.Volume.file path.now)
+        (WasGivenUp ⟦<Connection<<M::Volume as Volume>::Disk> as Closable>⟧.closes M.Volume.file
+        path.now)
+        (IsToldAs (IsUnopenedAt M.Volume.Disk.Store
+        (WasClosed ⟦<Connection<<M::Volume as Volume>::Disk> as Closable>⟧.closes)
+        M.Volume.file path.now))
         (IsUnopened M.Volume.Disk.Store
         (WasClosed ⟦<Connection<<M::Volume as Volume>::Disk> as Closable>⟧.closes)
         (M.Volume.file host.old.volume path.now))
         (drawing_between M.Clock.coming M.Chance.coming host.old host.new) count
         (end_between W.Output.contents W.Errors.contents streams.old streams.new result) }
 {
-    let Ended { ending, finished } = serve_file(host, path, port, count, streams);
+    let Ended { ending, finished } = serve_file::<Brand, M, W>(host, path, port, count, streams);
     if let Some(finished) = finished {
         close_uncut(&mut host.volume, path, finished);
     }

@@ -1,12 +1,11 @@
 -- The bytes of a reader, where they are known.
-use Rattle.std.proofs.Common.{◌≡◌, ℕ, List, Option, Some, None, subst, ◌∙◌}
+use Rattle.std.proofs.Common.{◌≡◌, ℕ, List, [], Option, Some, None, refl, unwrap_or, ◌∙◌}
 use Rattle.std.specs.Prelude.{IfSome}
 
--- a fact on all bytes that were read
-pub for_known : (known : Option (List ℕ)) (bytes : List ℕ) (P : List ℕ → Type 0) →
-    IfSome known (λ all. bytes ≡ all) → P bytes → IfSome known P
-for_known None bytes P read fact = tt
-for_known (Some all) bytes P read fact = subst P read fact
+-- some bytes, which are all of a reader's where these are known
+pub all_of : (known : Option (List ℕ)) → IfSome known (λ all. unwrap_or known [] ≡ all)
+all_of None = tt
+all_of (Some all) = refl
 
 -- bytes that were read, under another name
 pub known_as : (known : Option (List ℕ)) (bytes read : List ℕ) → bytes ≡ read →

@@ -39,7 +39,7 @@ module _ {S : Type 0} (closes : S → Result (Unit {0}) Error → Type 0) where
   abbrev pub WasClosed : S → Type 0
   WasClosed conn = (closing : Result (Unit {0}) Error) × closes conn closing
 
-  -- or it was let go, since others had cut its file
-  abbrev pub WasGivenUp : {Volume : Type 0} → (Volume → List ℕ → FileAt) → S → Type 0
-  WasGivenUp {Volume} file conn = WasClosed conn
-      ⊎ ((volume : Volume) × (path : List ℕ) × (file volume path).is_cut)
+  -- or it was let go, since others had cut its file at the path
+  abbrev pub WasGivenUp : {Volume : Type 0} → (Volume → List ℕ → FileAt) → List ℕ → S → Type 0
+  WasGivenUp {Volume} file path conn = WasClosed conn
+      ⊎ ((volume : Volume) × (file volume path).is_cut)

@@ -79,10 +79,10 @@ module _ {S : Type 0} (disk : Ghosts S) where
     abbrev pub IsOpened : Held S → Type 0
     IsOpened conn = IsOurs conn ⊎ IsNew conn
 
-  -- one of this schema, at whatever path and whenever it was opened
-  abbrev pub IsOursAnywhere : {Volume : Type 0} → (Volume → List ℕ → FileAt) → Held S → Type 0
-  IsOursAnywhere {Volume} file conn =
-      (volume : Volume) × (path : List ℕ) × IsOurs (file volume path).holds conn
+  -- one of this schema at the path, whenever it was opened
+  abbrev pub IsOursAt : {Volume : Type 0} → (Volume → List ℕ → FileAt) → List ℕ → Held S → Type 0
+  IsOursAt {Volume} file path conn =
+      (volume : Volume) × IsOurs (file volume path).holds conn
 
   -- nothing was in the file at the path, whenever it was opened
   abbrev pub IsBlankAt : {Volume : Type 0} → (Volume → List ℕ → FileAt) → List ℕ → Held S → Type 0
@@ -119,6 +119,11 @@ module _ {S : Type 0} (disk : Ghosts S) (closed : Held S → Type 0) where
     abbrev pub IsUnmade : OpenFault → Type 0
     IsUnmade fault = IsUnopened fault
         ⊎ ((old : Held S) × Finds disk file.holds old × IsOfFile (FailsToMake old) fault)
+
+  -- no file was opened at the path, whenever that was tried
+  abbrev pub IsUnopenedAt : {Volume : Type 0} → (Volume → List ℕ → FileAt) → List ℕ → OpenFault →
+      Type 0
+  IsUnopenedAt {Volume} file path fault = (volume : Volume) × IsUnopened (file volume path) fault
 
 module _ {S : Type 0} (disk : Ghosts S) (file : FileAt) where
   -- an empty file was wanted: it is refused, or it was found, and something is in it

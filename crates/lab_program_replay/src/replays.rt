@@ -42,7 +42,9 @@ fn run_input<R: Read + Drop, W: Write>(
         (W.contents output.old) (W.contents output.new) result }
 {
     let store = new_store(alloc)?;
-    let mut desk = Desk::new(alloc, store)?;
+    let Ok(mut desk) = Desk::new(alloc, store) else {
+        return Err(ReplayFault::Memory);
+    };
     let mut reader = BufReader::new(alloc, LimitedReader::new(input, MOST_ASKS))?;
     run_events(alloc, &mut desk, &mut reader, output)
 }

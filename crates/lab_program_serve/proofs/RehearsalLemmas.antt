@@ -1,5 +1,5 @@
 -- A rehearsal: the laboratory that is founded in memory, and the one request of it.
-use Rattle.std.proofs.Common.{◌≡◌, ◌≢◌, ℕ, pos, List, [], ◌∷◌, ◌++◌, inr, Option, Some, None, Result, Ok, Err, refl, sym, ap, subst, ◌∙◌}
+use Rattle.std.proofs.Common.{◌≡◌, ◌≢◌, ℕ, pos, List, [], ◌∷◌, ◌++◌, inr, Option, Some, None, Result, Ok, Err, refl, sym, ap, subst, unwrap_or, ◌∙◌}
 use Rattle.std.specs.Prelude.{IfErr, IfSome, IsOk, IsSome, IsTrue, take}
 use Rattle.std.specs.Io.KnownBytes.{Appends}
 use Rattle.std.proofs.KnownBytes.{Appends-nil}
@@ -12,14 +12,15 @@ use Rattle.lab_records_keeper.specs.declared.faults.PlacingFault.TheVariants.{La
 use Rattle.lab_records_machine.specs.Births.{newborn}
 use Rattle.lab_records_memory.specs.Lists.{lab_of, world_of}
 use Rattle.lab_desk_foundings.specs.declared.faults.FoundFault.{FoundFault}
-use Rattle.lab_desk_foundings.specs.declared.faults.FoundFault.TheVariants.{Body as OfBody, Birth as OfBirth, Placing}
+use Rattle.lab_desk_foundings.specs.declared.faults.FoundFault.TheVariants.{Body as BadBody, Birth as OfBirth, Placing}
 use Rattle.lab_desk_foundings.specs.Faults.{FoundFaultFits}
 use Rattle.lab_desk_foundings.specs.Foundings.{Body, Founds, founding_in}
+use Rattle.lab_program_host.proofs.ReadLemmas.{all_of}
 use Rattle.lab_program_host.specs.declared.faults.RehearsalFault.{RehearsalFault}
 use Rattle.lab_program_host.specs.declared.faults.RehearsalFault.TheVariants.{Founding, Server}
 use Rattle.lab_program_host.specs.declared.faults.ServerFault.{ServerFault}
-use Rattle.lab_program_serve.specs.Rehearsals.{Forwards, IsFounded, IsServedAt, IsUnfounded, rehearsal_tick}
-use Rattle.lab_program_serve.specs.RehearseTask.{FoundsBy, Prints}
+use Rattle.lab_program_serve.specs.Rehearsals.{Forwards, IsFounded, IsServedAt, IsUnfounded, OfBody, rehearsal_tick}
+use Rattle.lab_program_serve.specs.RehearseTask.{Prints}
 use Rattle.lab_program_serve.specs.Texts.{IsPrinted}
 use Rattle.lab_program_serve.specs.Visits.{Visit}
 use Rattle.lab_program_serve.proofs.TextLemmas.{printed_all}
@@ -54,7 +55,7 @@ unfounded_alone : (code : List ℕ) (tick : Tick) (body : Body) (old : List Lab)
     old ≡ [] →
     FoundFaultFits ⊥ (Unit {0} → Unit {0} → IsSome (lab_of old code)) code tick body fault →
     FoundFaultFits ⊥ ⊥ code tick body fault
-unfounded_alone code tick body old (OfBody refusal) none fits = fits
+unfounded_alone code tick body old (BadBody refusal) none fits = fits
 unfounded_alone code tick body old (OfBirth refusal) none fits = fits
 unfounded_alone code tick body old (Placing LabExists) none fits =
     (fits.0, none_there old code none (fits.1 tt tt))
@@ -73,10 +74,12 @@ unfounded_so code bytes tick old fault told is at none fits =
 
 -- a fault of the server says nothing of the founding
 pub unfounded_server : (known : Option (List ℕ)) (code : List ℕ) (fault : ServerFault)
-    (told : RehearsalFault) → told ≡ Server fault →
-    IfSome known (λ bytes. IsUnfounded code bytes told)
-unfounded_server None code fault told is = tt
-unfounded_server (Some bytes) code fault told is = subst (IsUnfounded code bytes) (sym is) tt
+    (told : RehearsalFault) → told ≡ Server fault → OfBody known (λ bytes. IsUnfounded code bytes told)
+unfounded_server known code fault told is = (
+  unwrap_or known [],
+  all_of known,
+  subst (IsUnfounded code (unwrap_or known [])) (sym is) tt,
+)
 
 -- ---- over the connection
 
@@ -109,20 +112,6 @@ served_any tick (Ok _) visit at whole = (visit, refl, at, whole)
 served_any tick (Err _) visit at whole = inr (visit, refl, at)
 
 -- ---- the task
-
--- a laboratory that was founded is borne by the body
-pub founds_so : (known : Option (List ℕ)) (code : List ℕ) (labs : List Lab) (done : Unit {0}) →
-    IfSome known (λ bytes. IsFounded code bytes labs) →
-    IfSome known (λ bytes. FoundsBy code bytes (Ok done))
-founds_so None code labs done founded = tt
-founds_so (Some bytes) code labs done founded = (founded.0, founded.1)
-
--- a fault of the server says nothing of the founding
-pub founds_faulty : (known : Option (List ℕ)) (code : List ℕ) (fault : ServerFault)
-    (told : RehearsalFault) → told ≡ Server fault →
-    IfSome known (λ bytes. FoundsBy code bytes (Err told))
-founds_faulty None code fault told is = tt
-founds_faulty (Some bytes) code fault told is = subst (IsUnfounded code bytes) (sym is) tt
 
 -- before the request nothing is printed
 pub prints_none : (fault : RehearsalFault) → Prints (Err fault) []

@@ -17,6 +17,11 @@ rehearsal_tick moment = record {
   words = 1 ∷ 2 ∷ 3 ∷ 4 ∷ 5 ∷ 6 ∷ 7 ∷ 8 ∷ [];
 }
 
+-- this holds of some bytes as a body: all of the input, where that is known; else nothing says that
+-- they were read
+abbrev pub OfBody : Option (List ℕ) → (List ℕ → Type 0) → Type 0
+OfBody known Holds = (bytes : List ℕ) × IfSome known (λ all. bytes ≡ all) × Holds bytes
+
 -- the laboratory of the code was born from the body, and there is no other
 abbrev pub IsFounded : List ℕ → List ℕ → List Lab → Type 0
 IsFounded code body labs =

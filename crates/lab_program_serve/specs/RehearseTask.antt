@@ -1,5 +1,5 @@
 -- What the task `rehearse` comes to, by its status and what standard error was told.
-use Rattle.std.specs.Prelude.{◌≡◌, ℕ, List, [], Option, Result, Ok, Err, IfSome}
+use Rattle.std.specs.Prelude.{◌≡◌, ℕ, List, [], Option, Result, Ok, Err}
 use Rattle.std.specs.Io.KnownBytes.{Appends}
 use Rattle.lab_records_kept.specs.declared.labs.Lab.{Lab}
 use Rattle.lab_desk_foundings.specs.Foundings.{IsNewborn, founding_in}
@@ -7,7 +7,7 @@ use Rattle.lab_program_host.specs.Faults.{PrintsFault, rehearsal_fault_word}
 use Rattle.lab_program_host.specs.declared.faults.RehearsalFault.{RehearsalFault}
 use Rattle.lab_program_host.specs.declared.faults.RehearsalFault.TheVariants.{Founding, Server}
 use Rattle.lab_program_host.specs.TaskEnds.{TaskEnd}
-use Rattle.lab_program_serve.specs.Rehearsals.{IsUnfounded, rehearsal_tick}
+use Rattle.lab_program_serve.specs.Rehearsals.{IsUnfounded, OfBody, rehearsal_tick}
 
 -- the body bears a laboratory where a reply was printed, and a refusal is that of its founding
 abbrev pub FoundsBy : List ℕ → List ℕ → Result (Unit {0}) RehearsalFault → Type 0
@@ -24,7 +24,7 @@ Prints (Err (Server fault)) printed = Unit {0}
 -- a laboratory was founded and asked for its card, unless a fault came, which was told
 pub record IsRehearsal (body : Option (List ℕ)) (code : List ℕ) (end : TaskEnd) : Type 0 where
   pub ending : Result (Unit {0}) RehearsalFault
-  pub founded : IfSome body (λ bytes. FoundsBy code bytes ending)
+  pub founded : OfBody body (λ bytes. FoundsBy code bytes ending)
   pub printed : List ℕ
   pub prints : Prints ending printed
   pub wrote : Appends end.before end.after printed

@@ -37,9 +37,18 @@ pub record IsHandledShut (visit : Visit) : Type 0 where
   pub handled : OnServed visit.ending (HandlesRequest shut_keeper old new visit.exchange)
   pub sent : IsSent visit
 
-abbrev pub AreRefused : List Visit → Type 0
-AreRefused [] = Unit {0}
-AreRefused (visit ∷ visits) = IsHandledShut visit × AreRefused visits
+-- why there was no desk: no keeper was opened; or memory ran out after the opening, and the keeper
+-- was closed
+abbrev pub IsUnmended : {S : Type 0} → (opened closed : S → Type 0) → (Fault BadStore → Type 0) →
+    Type 0
+IsUnmended {S} opened closed unopened = ((fault : Fault BadStore) × unopened fault)
+    ⊎ ((kept : S) × opened kept × closed kept)
+
+-- the requests of these connections were refused, each since there was no desk
+abbrev pub AreRefused : (unmended : Type 0) → List Visit → Type 0
+AreRefused unmended [] = Unit {0}
+AreRefused unmended (visit ∷ visits) =
+    (IsHandledShut visit × unmended) × AreRefused unmended visits
 
 module _ {S : Type 0} (keeper : Ghosts S) where
   -- a connection was served over a desk, whatever was so before
@@ -77,7 +86,8 @@ module _ {S : Type 0} (keeper : Ghosts S) where
     EndWith (time ∷ []) None = IsGivenUp time.last
     EndWith (time ∷ next ∷ times) left = IsGivenUp time.last × EndWith (next ∷ times) left
 
-module _ {S : Type 0} (keeper : Ghosts S) (opened : S → Type 0) where
+module _ {S : Type 0} (keeper : Ghosts S) (opened closed : S → Type 0)
+    (unopened : Fault BadStore → Type 0) where
   -- one time. Its keeper passes on what every call passes on, and all that stays true stays so,
   -- from its opening to the last connection: so a crash then leaves what it may leave there, of
   -- which the next opening finds one
@@ -88,12 +98,13 @@ module _ {S : Type 0} (keeper : Ghosts S) (opened : S → Type 0) where
     pub stays : GivenWithin (keeper.world time.first) (keeper.world time.last)
         (StaysOn (keeper.world time.first) (keeper.world time.last))
     pub passes : Passes (keeper.world time.first) (keeper.world time.last)
-    pub refused_so : AreRefused time.refused
+    pub refused_so : AreRefused (IsUnmended opened closed unopened) time.refused
 
   abbrev pub AreTimes : List (Time S) → Type 0
   AreTimes [] = Unit {0}
   AreTimes (time ∷ times) = IsTime time × AreTimes times
 
+module _ {S : Type 0} (keeper : Ghosts S) (opened : S → Type 0) where
   -- a desk over a keeper that was opened, which has answered nothing
   abbrev pub IsFresh : Served S → Type 0
   IsFresh new = opened new.keeper × (new.reply ≡ [])
@@ -110,7 +121,7 @@ module _ {S : Type 0} (keeper : Ghosts S) (opened : S → Type 0) where
   BeginWith first [] = ⊥
   BeginWith first (time ∷ times) = time.first ≡ first
 
-  module _ (closed : S → Type 0) where
+  module _ (closed : S → Type 0) (unopened : Fault BadStore → Type 0) where
     -- before a request: the keeper is as it was, or answered where the last reply was one for the
     -- store's sake; or it is given up, and another was opened, or none could be
     abbrev pub IsMended : Option (Served S) → Option (Served S) → Type 0
@@ -118,7 +129,8 @@ module _ {S : Type 0} (keeper : Ghosts S) (opened : S → Type 0) where
         ⊎ (IsGivenUp keeper closed old.keeper × IsFresh new)
     IsMended None (Some new) = IsFresh new
     IsMended (Some old) None = IsGivenUp keeper closed old.keeper
-    IsMended None None = Unit {0}
+        × IsUnmended opened closed unopened
+    IsMended None None = IsUnmended opened closed unopened
 
     pub record IsNext (old : Option (Served S)) (visit : Visit) (new : Option (Served S)) :
         Type 0 where
@@ -132,6 +144,6 @@ module _ {S : Type 0} (keeper : Ghosts S) (opened : S → Type 0) where
       pub times : List (Time S)
       pub begin : BeginWith first times
       pub ends : EndWith keeper closed times left
-      pub are : AreTimes times
+      pub are : AreTimes keeper opened closed unopened times
       pub counted : AreCounted ending count (visits_of times)
       pub given : KeepsGiven ending (visits_of times) sources

@@ -14,7 +14,7 @@ mod serving;
 mod shut;
 
 pub use connections::{Client, Connections};
-pub use lab_desk::{Desk, Keeper};
+pub use lab_desk::{Desk, Keeper, Unmade};
 pub use lab_forms_streams::WriteFault;
 pub use lab_forms_texts::{LabCode, Moment};
 pub use lab_program_host::{

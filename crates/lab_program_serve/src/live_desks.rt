@@ -1,13 +1,13 @@
 //! A desk over a keeper that is opened anew once it doesn't answer.
 
-ghost use Rattle.std.specs.Prelude.{◌≡◌, true, false, ℕ, List, [], Some, None, option_map, IfOk, IfSome};
-ghost use Rattle.lab_program_serve.specs.Times.{IsAsked, IsAskedIfAny, IsMended, IsNext};
+ghost use Rattle.std.specs.Prelude.{◌≡◌, true, false, ℕ, List, [], Some, None, option_map, IfErr, IfOk, IfSome};
+ghost use Rattle.lab_program_serve.specs.Times.{IsAsked, IsAskedIfAny, IsMended, IsNext, IsUnmended};
 ghost use Rattle.lab_program_serve.specs.Visits.{GoesOn};
 
 use crate::openings::Opener;
 use crate::serving::serve_connection;
 use crate::shut::Shut;
-use lab_desk::{Desk, Keeper};
+use lab_desk::{Desk, Keeper, Unmade};
 use lab_forms_texts::{LabCode, OutOfMemory, Tick};
 use lab_program_host::ConnectionFault;
 use lab_records_keeper::{BadStore, KeeperFault};
@@ -56,15 +56,15 @@ impl<S: Keeper + Drop, O: Drop> LiveDesk<S, O> {
     /// A live desk with a desk over a keeper that was opened.
     ///
     /// # Errors
-    /// Only that memory ran out.
-    pub fn new(alloc: Global, opener: O, desk: Desk<S>) -> Result<LiveDesk<S, O>, OutOfMemory>
-        ensures { IfOk result (λ live_desk. live_desk ≡ Some desk) }
+    /// Memory ran out. The keeper is handed back.
+    pub fn new(alloc: Global, opener: O, desk: Desk<S>) -> Result<LiveDesk<S, O>, Unmade<S>>
+        ensures desk { IfOk result (λ live_desk. live_desk ≡ Some desk) }
+        ensures unmade { IfErr result (λ unmade. unmade.keeper ≡ desk.keeper) }
     {
-        let Ok(lab) = LabCode::parse(alloc, ASKED) else {
-            return Err(OutOfMemory);
+        let Ok((lab, shut)) = spare_desk(alloc) else {
+            let keeper = desk.into_keeper();
+            return Err(Unmade { keeper });
         };
-        let fault = KeeperFault::Refused(BadStore);
-        let shut = Desk::new(alloc, Shut { fault })?;
         Ok(LiveDesk {
             opener,
             lab,
@@ -78,7 +78,7 @@ impl<S: Keeper + Drop, O: Drop> LiveDesk<S, O> {
     where
         O: Opener<H, S>,
         ensures mended { result ≡ true →
-            IsMended S.Keeper O.opened O.closed self.old self.new }
+            IsMended S.Keeper O.opened O.closed O.unopened self.old self.new }
         ensures asked { IsAskedIfAny S.Keeper self.old self.new }
     {
         let is_there = self.opener.is_there(host);
@@ -92,21 +92,37 @@ impl<S: Keeper + Drop, O: Drop> LiveDesk<S, O> {
         }
     }
 
-    // A desk over a keeper that is opened anew.
+    // Closes a keeper after its last call.
+    fn close<H>(&mut self, host: &mut H, keeper: S)
+    where
+        O: Opener<H, S>,
+        ensures closed { O.closed keeper }
+        ensures same { self.new ≡ self.old }
+    {
+        let finished = self.opener.finish(keeper);
+        self.opener.close(host, finished);
+    }
+
+    // A desk over a keeper that is opened anew. If there is no memory for the desk, the keeper is
+    // closed.
     fn desk_opened<H>(&mut self, alloc: Global, host: &mut H) -> Result<Desk<S>, KeeperFault>
     where
         O: Opener<H, S>,
         ensures opened { IfOk result (λ desk. O.opened desk.keeper × (desk.reply ≡ [])) }
+        ensures unopened { IfErr result (λ _. IsUnmended O.opened O.closed O.unopened) }
         ensures same { self.new ≡ self.old }
     {
         let keeper = self.opener.open(alloc, host)?;
         match Desk::new(alloc, keeper) {
             Ok(desk) => Ok(desk),
-            Err(_) => Err(KeeperFault::Memory),
+            Err(unmade) => {
+                self.close(host, unmade.keeper);
+                Err(KeeperFault::Memory)
+            }
         }
     }
 
-    // Gives up the keeper, if there is one: behind its last call it is closed.
+    // Gives up the keeper, if there is one: after its last call it is closed.
     fn give_up<H>(&mut self, host: &mut H)
     where
         O: Opener<H, S>,
@@ -114,8 +130,7 @@ impl<S: Keeper + Drop, O: Drop> LiveDesk<S, O> {
         ensures closed { IfSome self.old (λ desk. O.closed desk.keeper) }
     {
         if let Some(desk) = self.desk.take() {
-            let finished = self.opener.finish(desk.into_keeper());
-            self.opener.close(host, finished);
+            self.close(host, desk.into_keeper());
         }
     }
 
@@ -123,7 +138,7 @@ impl<S: Keeper + Drop, O: Drop> LiveDesk<S, O> {
     fn mend<H>(&mut self, alloc: Global, host: &mut H)
     where
         O: Opener<H, S>,
-        ensures { IsMended S.Keeper O.opened O.closed self.old self.new }
+        ensures { IsMended S.Keeper O.opened O.closed O.unopened self.old self.new }
     {
         if self.is_open(host) {
             return;
@@ -152,7 +167,7 @@ impl<S: Keeper + Drop, O: Drop> LiveDesk<S, O> {
     ) -> Result<(), ConnectionFault>
     where
         O: Opener<H, S>,
-        ensures { (reply : List ℕ) × IsNext S.Keeper O.opened O.closed self.old (record {
+        ensures { (reply : List ℕ) × IsNext S.Keeper O.opened O.closed O.unopened self.old (record {
           exchange = record { known = R.remaining reader; tick = tick.now; reply = reply };
           ending = result;
           before = W.contents writer.old;
@@ -181,6 +196,19 @@ impl<S: Keeper + Drop, O: Drop> LiveDesk<S, O> {
             shut: _,
         } = self;
         Some(desk?.into_keeper())
+    }
+}
+
+// The code of which a keeper is asked whether it answers, and the desk for the requests that come
+// while no keeper is open.
+fn spare_desk(alloc: Global) -> Result<(LabCode, Desk<Shut>), OutOfMemory> {
+    let Ok(lab) = LabCode::parse(alloc, ASKED) else {
+        return Err(OutOfMemory);
+    };
+    let fault = KeeperFault::Refused(BadStore);
+    match Desk::new(alloc, Shut { fault }) {
+        Ok(shut) => Ok((lab, shut)),
+        Err(_) => Err(OutOfMemory),
     }
 }
 

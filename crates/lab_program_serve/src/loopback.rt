@@ -198,7 +198,7 @@ fn serve_listener<M: Outside, S: Keeper + Drop, O: Opener<M::Volume, S> + Drop, 
 ) -> Result<(), ServerFault>
     ensures printed { IsAnnounced result (W.contents output.old) (W.contents output.new) }
     ensures served { IfSome live_desk.old (λ desk. O.opened desk.keeper →
-        ServesTimes S.Keeper O.opened O.closed desk.keeper live_desk.new result count (listened
+        ServesTimes S.Keeper O.opened O.closed O.unopened desk.keeper live_desk.new result count (listened
         (drawing_between M.Clock.coming M.Chance.coming host.old host.new))) }
 {
     let mut listening = Listening::new(listener, Rest::new(host.net))?;
@@ -218,7 +218,7 @@ pub fn serve<M: Outside, S: Keeper + Drop, O: Opener<M::Volume, S> + Drop, W: Wr
     count: u32,
     streams: &mut Streams<W>,
 ) -> Result<u8, WriteFault>
-    ensures { IsServing S.Keeper O.opened O.closed live_desk.old live_desk.new
+    ensures { IsServing S.Keeper O.opened O.closed O.unopened live_desk.old live_desk.new
         (drawing_between M.Clock.coming M.Chance.coming host.old host.new) count
         (end_between W.Output.contents W.Errors.contents streams.old streams.new result) }
 {

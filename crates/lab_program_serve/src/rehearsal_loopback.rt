@@ -1,8 +1,9 @@
 //! A rehearsal over a socket of this machine.
 
-ghost use Rattle.std.specs.Prelude.{ℕ, List, IfSome};
+ghost use Rattle.std.specs.Prelude.{ℕ, List};
 ghost use Rattle.std.specs.Io.KnownBytes.{Appends};
 ghost use Rattle.lab_program_host.specs.Hosts.{end_between};
+ghost use Rattle.lab_program_serve.specs.Rehearsals.{OfBody};
 ghost use Rattle.lab_program_serve.specs.RehearseTask.{FoundsBy, IsRehearsal, Prints};
 
 use crate::rehearsals::{found_in_memory, rehearse_over};
@@ -49,7 +50,7 @@ fn found_and_ask<N: Net, B: Read, W: Write>(
     body: &mut B,
     output: &mut W,
 ) -> Result<(), RehearsalFault>
-    ensures founded { IfSome (B.remaining body.old) (λ bytes. FoundsBy lab.now bytes result) }
+    ensures founded { OfBody (B.remaining body.old) (λ bytes. FoundsBy lab.now bytes result) }
     ensures printed { (printed : List ℕ) × Prints result printed
         × Appends (W.contents output.old) (W.contents output.new) printed }
 {

@@ -1,9 +1,9 @@
 //! A rehearsal: a laboratory is founded in memory, and asked for its card over a connection.
 
-ghost use Rattle.std.specs.Prelude.{◌≡◌, List, [], IfOk, IfErr, IfSome};
+ghost use Rattle.std.specs.Prelude.{◌≡◌, List, [], IfOk, IfErr};
 ghost use Rattle.lab_records_keeper.specs.Worlds.{Passes};
 ghost use Rattle.lab_desk_events.specs.Keeping.{GivenWithin};
-ghost use Rattle.lab_program_serve.specs.Rehearsals.{Forwards, IsFounded, IsServedAt, IsUnfounded, card_request, rehearsal_tick};
+ghost use Rattle.lab_program_serve.specs.Rehearsals.{Forwards, IsFounded, IsServedAt, IsUnfounded, OfBody, card_request, rehearsal_tick};
 ghost use Rattle.lab_program_serve.specs.Texts.{IsPrinted};
 ghost use Rattle.lab_program_serve.specs.Visits.{AreVisits, IsStill, Visit};
 
@@ -53,10 +53,9 @@ pub(crate) fn found_in_memory<B: Read>(
     lab: &LabCode,
     body: &mut B,
 ) -> Result<Desk<Lists>, RehearsalFault>
-    ensures founded { IfOk result (λ desk. IfSome (B.remaining body.old) (λ bytes.
-        IsFounded lab.now bytes desk.keeper)) }
-    ensures refused { IfErr result (λ fault. IfSome (B.remaining body.old) (λ bytes.
-        IsUnfounded lab.now bytes fault)) }
+    ensures { OfBody (B.remaining body.old) (λ bytes.
+        IfOk result (λ desk. IsFounded lab.now bytes desk.keeper)
+        × IfErr result (IsUnfounded lab.now bytes)) }
 {
     let bytes = read_all(alloc, body)?;
     let mut desk = desk_in_memory(alloc)?;
@@ -68,7 +67,10 @@ pub(crate) fn found_in_memory<B: Read>(
 fn desk_in_memory(alloc: Global) -> Result<Desk<Lists>, ServerFault>
     ensures { IfOk result (λ desk. desk.keeper ≡ []) }
 {
-    Ok(Desk::new(alloc, Lists::new(alloc))?)
+    match Desk::new(alloc, Lists::new(alloc)) {
+        Ok(desk) => Ok(desk),
+        Err(_) => Err(ServerFault::Memory),
+    }
 }
 
 // Writes all that a reader gives.

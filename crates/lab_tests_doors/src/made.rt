@@ -36,5 +36,7 @@ pub(crate) fn event<R: Abort + AllocGlobal>(rt: &R, (lab, bytes): Told, first: u
 
 /// A desk with no laboratory.
 pub(crate) fn empty_desk<R: Abort + AllocGlobal>(rt: &R) -> Desk<Lists> {
-    Desk::new(rt.alloc(), Lists::new(rt.alloc())).expect(rt, "a desk")
+    Desk::new(rt.alloc(), Lists::new(rt.alloc()))
+        .ok()
+        .expect(rt, "a desk")
 }

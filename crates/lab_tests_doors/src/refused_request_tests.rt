@@ -14,7 +14,7 @@ fn desk_with<R: Abort + AllocGlobal>(rt: &R, calls: u64) -> Desk<Moody> {
         calls,
         is_moody: true,
     };
-    let mut desk = Desk::new(rt.alloc(), moody).expect(rt, "a desk");
+    let mut desk = Desk::new(rt.alloc(), moody).ok().expect(rt, "a desk");
     let code = code(rt, "aqua");
     let found = desk.found(&code, &tick(rt, 50, 9), BODY);
     drop(code);
@@ -26,7 +26,7 @@ fn desk_with<R: Abort + AllocGlobal>(rt: &R, calls: u64) -> Desk<Moody> {
 fn calmed<R: Abort + AllocGlobal>(rt: &R, desk: Desk<Moody>) -> Desk<Moody> {
     let mut moody = desk.into_keeper();
     moody.is_moody = false;
-    Desk::new(rt.alloc(), moody).expect(rt, "a desk")
+    Desk::new(rt.alloc(), moody).ok().expect(rt, "a desk")
 }
 
 // An opening in the hundredth second is taken or not, and gets this reply.

@@ -38,7 +38,7 @@ fn moody_desk<R: Abort + AllocGlobal>(rt: &R) -> Desk<Moody> {
         calls: 0,
         is_moody: true,
     };
-    Desk::new(rt.alloc(), moody).expect(rt, "a desk")
+    Desk::new(rt.alloc(), moody).ok().expect(rt, "a desk")
 }
 
 // The run, without clauses, so that the proof of the test doesn't carry them.

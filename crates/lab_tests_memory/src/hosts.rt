@@ -71,6 +71,8 @@ impl<H> Opener<H, Lists> for Never {
 
     ghost opened = { λ _. Unit {0} };
 
+    ghost unopened = { λ _. Unit {0} };
+
     ghost closed = { λ _. Unit {0} };
 
     ghost keeper_of = { λ keeper. keeper };

@@ -15,7 +15,9 @@ use std::process::Abort;
 
 // A desk with a laboratory that was founded at the first moment.
 fn desk_with_aqua<R: Abort + AllocGlobal>(rt: &R) -> Desk<Lists> {
-    let mut desk = Desk::new(rt.alloc(), Lists::new(rt.alloc())).expect(rt, "a desk");
+    let mut desk = Desk::new(rt.alloc(), Lists::new(rt.alloc()))
+        .ok()
+        .expect(rt, "a desk");
     let code = LabCode::parse(rt.alloc(), "aqua").expect(rt, "a code");
     let tick = Tick {
         moment: Moment::from_seconds(0).expect(rt, "a moment"),
@@ -69,7 +71,9 @@ fn served<R: Abort + AllocGlobal>(
         progress: (),
     };
     let listener = listen(&ground, 7000).ok().expect(rt, "a listener");
-    let mut office = LiveDesk::new(rt.alloc(), Never, desk_with_aqua(rt)).expect(rt, "an office");
+    let mut office = LiveDesk::new(rt.alloc(), Never, desk_with_aqua(rt))
+        .ok()
+        .expect(rt, "an office");
     let mut streams: Streams<Buffers> = Streams {
         output: Vec::new(rt.alloc()),
         errors: Vec::new(rt.alloc()),

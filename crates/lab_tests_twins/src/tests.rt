@@ -14,7 +14,9 @@ fn tick(rt: &impl Abort, seconds: i64) -> Tick {
 
 // A desk with no laboratory.
 fn empty_desk<R: Abort + AllocGlobal>(rt: &R) -> Desk<Lists> {
-    Desk::new(rt.alloc(), Lists::new(rt.alloc())).expect(rt, "a desk")
+    Desk::new(rt.alloc(), Lists::new(rt.alloc()))
+        .ok()
+        .expect(rt, "a desk")
 }
 
 // Founds a laboratory of this code.

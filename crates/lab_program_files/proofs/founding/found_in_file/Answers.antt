@@ -1,14 +1,14 @@
 -- Where there is no desk nothing is asked of a keeper; then a founding over it tells. What it left is
 -- closed.
-use Rattle.std.proofs.Common.{◌∙◌, Some, ap, inl, inr, refl, subst, sym}
+use Rattle.std.proofs.Common.{◌∙◌, Some, ap, subst, sym}
 use Rattle.lab_program_host.specs.declared.faults.ServerFault.TheVariants.{Memory}
 use Rattle.lab_program_files.specs.FileWorlds.{file_keeper}
 use Rattle.lab_program_opening.specs.Files.{IsOpened}
 use Rattle.lab_program_files.proofs.FoundingLemmas.{ends_idle, undrawn}
 use Rattle.lab_program_files.proofs.founding.found_in_file.Goals as goal
 
-pub returns-in_default-clause-ends : goal.returns-in_default-clause-ends
-returns-in_default-clause-ends g c = (
+pub returns-in-Err-new-clause-ends : goal.returns-in-Err-new-clause-ends
+returns-in-Err-new-clause-ends g c = (
   (
     c.in-Ok.store,
     c.in-Ok.store,
@@ -17,7 +17,7 @@ returns-in_default-clause-ends g c = (
         (g.B.Read.remaining c.args.body.now) c.in-Ok.store Memory tt,
     record { honest = λ h. h; live = λ h l. l; refusing = λ m. m },
   ),
-  inr (refl, refl),
+  ap Some (c.new-2.ensures ∙ c.into_connection.ensures.same ∙ c.in-Err-new.ensures.unmade),
 )
 
 pub returns-clause-ends : goal.returns-clause-ends
@@ -32,5 +32,5 @@ returns-clause-ends g c =
         c.found_over-ending.ensures.ends,
         c.found_over-ending.ensures.passes,
       ),
-      inl (ap Some (c.new-2.ensures ∙ c.into_connection-left.ensures.same ∙ c.into_keeper.ensures)),
+      ap Some (c.new-3.ensures ∙ c.into_connection-left.ensures.same ∙ c.into_keeper.ensures),
     )

@@ -10,14 +10,14 @@ use Rattle.lab_program_serve.proofs.serving.serve_over.Goals as goal
 pub returns-in_err-announce-clause-served : goal.returns-in_err-announce-clause-served
 returns-in_err-announce-clause-served g c =
     let fault = err_from_is_err_and c.from_residual.result c.from_residual.ensures.1 in
-    rw fault.1 (serves_cut g.S.Keeper g.O.Opener.opened g.O.Opener.closed fault.0 c.args.live_desk.now
+    rw fault.1 (serves_cut g.S.Keeper g.O.Opener.opened g.O.Opener.closed g.O.Opener.unopened fault.0 c.args.live_desk.now
     c.args.live_desk.now 0 c.args.count _ _ _ _ _ _ _ _ _ (omega arith)
-    (counts_first g.S.Keeper g.O.Opener.opened g.O.Opener.closed c.args.live_desk.now _ _ _))
+    (counts_first g.S.Keeper g.O.Opener.opened g.O.Opener.closed g.O.Opener.unopened c.args.live_desk.now _ _ _))
 
 pub loop-init : goal.loop-init
 loop-init g c = record {
   bound = omega arith;
-  so_far = counts_first g.S.Keeper g.O.Opener.opened g.O.Opener.closed c.args.live_desk.now _ _ _;
+  so_far = counts_first g.S.Keeper g.O.Opener.opened g.O.Opener.closed g.O.Opener.unopened c.args.live_desk.now _ _ _;
 }
 
 pub returns-in_err-connection-clause-printed : goal.returns-in_err-connection-clause-printed
@@ -34,7 +34,7 @@ pub returns-in_err-connection-clause-served : goal.returns-in_err-connection-cla
 returns-in_err-connection-clause-served g c =
     let fault = err_from_is_err_and c.from_residual-in_err-connection.result
     c.from_residual-in_err-connection.ensures.1 in
-    rw fault.1 (serves_cut g.S.Keeper g.O.Opener.opened g.O.Opener.closed fault.0 c.args.live_desk.now c.loop.live_desk
+    rw fault.1 (serves_cut g.S.Keeper g.O.Opener.opened g.O.Opener.closed g.O.Opener.unopened fault.0 c.args.live_desk.now c.loop.live_desk
     c.loop.counter c.args.count _ _ _ _ _ _ _ _ _ c.loop.invariant.bound
     c.loop.invariant.so_far)
 
@@ -52,14 +52,14 @@ pub returns-in_err-tick-clause-served : goal.returns-in_err-tick-clause-served
 returns-in_err-tick-clause-served g c =
     let fault = err_from_is_err_and c.from_residual-in_err-tick.result
     c.from_residual-in_err-tick.ensures.1 in
-    rw fault.1 (serves_cut g.S.Keeper g.O.Opener.opened g.O.Opener.closed fault.0 c.args.live_desk.now c.loop.live_desk
+    rw fault.1 (serves_cut g.S.Keeper g.O.Opener.opened g.O.Opener.closed g.O.Opener.unopened fault.0 c.args.live_desk.now c.loop.live_desk
     c.loop.counter c.args.count _ _ _ _ _ _ _ _ _ c.loop.invariant.bound
     c.loop.invariant.so_far)
 
 pub loop-preserved : goal.loop-preserved
 loop-preserved g c = record {
   bound = omega (arith, c.loop-test.true);
-  so_far = counts_more g.S.Keeper g.O.Opener.opened g.O.Opener.closed c.args.live_desk.now c.loop.live_desk
+  so_far = counts_more g.S.Keeper g.O.Opener.opened g.O.Opener.closed g.O.Opener.unopened c.args.live_desk.now c.loop.live_desk
       c.visit.new.self c.loop.counter _ _ _ _ _ _ _ _ _ _ c.visit.ensures.1
       c.in_ok-connection.ensures.given c.in_ok-tick.ensures.moment c.in_ok-tick.ensures.words
       c.loop.invariant.so_far;
@@ -73,6 +73,6 @@ returns-clause-printed g c =
 
 pub returns-clause-served : goal.returns-clause-served
 returns-clause-served g c =
-    serves_done g.S.Keeper g.O.Opener.opened g.O.Opener.closed _ c.args.live_desk.now c.loop.live_desk c.loop.counter
+    serves_done g.S.Keeper g.O.Opener.opened g.O.Opener.closed g.O.Opener.unopened _ c.args.live_desk.now c.loop.live_desk c.loop.counter
     c.args.count _ (omega (arith, c.loop-test.false, c.loop.invariant.bound))
     c.loop.invariant.so_far

@@ -7,7 +7,7 @@ use Rattle.lab_program_serve.proofs.serving.serve_over.Given as goal
 abbrev pub invariant-loop : goal.invariant-loop
 invariant-loop g l = record {
   bound : l.counter ≤ l.fn.count;
-  so_far : CountsFrom g.S.Keeper g.O.Opener.opened g.O.Opener.closed l.fn.live_desk l.live_desk l.counter (sources_of
+  so_far : CountsFrom g.S.Keeper g.O.Opener.opened g.O.Opener.closed g.O.Opener.unopened l.fn.live_desk l.live_desk l.counter (sources_of
       (g.L.Connections.coming l.fn.connections) (g.L.Connections.coming l.connections)
       (g.M.Clock.Clock.coming l.fn.host.clock) (g.M.Clock.Clock.coming l.host.clock)
       (g.M.Chance.Chance.coming l.fn.host.chance) (g.M.Chance.Chance.coming l.host.chance));

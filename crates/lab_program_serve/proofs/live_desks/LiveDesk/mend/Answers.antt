@@ -11,14 +11,14 @@ returns-in-Ok g c =
       | in-Some-1 w ↦ w.self-is
       | in-None-1 w ↦ w.self-is
     ] in
-    subst (IsMended g.S.Keeper g.O.Opener.opened g.O.Opener.closed c.args.self.now) (sym there)
-    (mended_anew g.S.Keeper g.O.Opener.opened g.O.Opener.closed c.args.self.now _ c.in-Ok.desk
+    subst (IsMended g.S.Keeper g.O.Opener.opened g.O.Opener.closed g.O.Opener.unopened c.args.self.now) (sym there)
+    (mended_anew g.S.Keeper g.O.Opener.opened g.O.Opener.closed g.O.Opener.unopened c.args.self.now _ c.in-Ok.desk
     c.is_open.ensures.asked c.give_up.ensures.closed c.in-Ok.ensures.opened.0
     c.in-Ok.ensures.opened.1)
 
 pub returns-in-Err : goal.returns-in-Err
 returns-in-Err g c =
     let none : c.self.inside.desk ≡ None = search rules in
-    subst (IsMended g.S.Keeper g.O.Opener.opened g.O.Opener.closed c.args.self.now) (sym none)
-    (mended_none g.S.Keeper g.O.Opener.opened g.O.Opener.closed c.args.self.now _
-    c.is_open.ensures.asked c.give_up.ensures.closed)
+    subst (IsMended g.S.Keeper g.O.Opener.opened g.O.Opener.closed g.O.Opener.unopened c.args.self.now) (sym none)
+    (mended_none g.S.Keeper g.O.Opener.opened g.O.Opener.closed g.O.Opener.unopened c.args.self.now _
+    c.is_open.ensures.asked c.give_up.ensures.closed c.in-Err.ensures.unopened)

@@ -11,7 +11,7 @@ returns-in-Some g c =
       c.serve_connection-ending.new.desk.reply,
       record {
         start = Some c.in-Some.desk;
-        mended = subst (IsMended g.S.Keeper g.O.Opener.opened g.O.Opener.closed c.args.self.now)
+        mended = subst (IsMended g.S.Keeper g.O.Opener.opened g.O.Opener.closed g.O.Opener.unopened c.args.self.now)
             there c.mend.ensures;
         met = (
           record {
@@ -33,10 +33,10 @@ returns-in-None g c =
     let before : c.mend.new.self ≡ None = search rules in
     let served = c.serve_connection.ensures in (
       c.serve_connection.new.desk.reply,
-      subst (IsNext g.S.Keeper g.O.Opener.opened g.O.Opener.closed c.args.self.now _) (sym none)
+      subst (IsNext g.S.Keeper g.O.Opener.opened g.O.Opener.closed g.O.Opener.unopened c.args.self.now _) (sym none)
           (record {
             start = None;
-            mended = subst (IsMended g.S.Keeper g.O.Opener.opened g.O.Opener.closed c.args.self.now)
+            mended = subst (IsMended g.S.Keeper g.O.Opener.opened g.O.Opener.closed g.O.Opener.unopened c.args.self.now)
                 before c.mend.ensures;
             met = record {
               old = c.self.inside.shut.keeper;
