@@ -26,14 +26,14 @@ use Rattle.lab_program_check.specs.Verdicts.{IsCheck}
 use Rattle.lab_program_opening.specs.declared.faults.OpenFault.{OpenFault}
 use Rattle.lab_program_opening.specs.Faults.{unopened_fault}
 use Rattle.lab_program_files.specs.FileWorlds.{file_keeper, file_refuses}
-use Rattle.lab_program_opening.specs.Ends.{WasClosed, WasGivenUp}
-use Rattle.lab_program_opening.specs.Files.{IsOpened, IsOurs, IsOursAt, IsUnmade, IsUnopened, IsUnopenedAt}
+use Rattle.lab_program_opening.specs.Ends.{WasClosed}
+use Rattle.lab_program_opening.specs.Files.{IsOpened, IsOurs, IsUnmade, IsUnopened}
 use Rattle.lab_program_opening.specs.Volumes.{FileAt}
 use Rattle.lab_program_host.proofs.ReadLemmas.{all_of}
 use Rattle.lab_program_host.specs.Sources.{Drawing}
 use Rattle.lab_program_files.specs.Copying.{CopyTask}
 use Rattle.lab_program_replay.specs.Replays.{IsReplay, ReplaysFromNothing}
-use Rattle.lab_program_files.specs.Serving.{IsToldAs, ServesFile}
+use Rattle.lab_program_files.specs.Serving.{IsNotOpenedAnywhere, IsOursAnywhere, ServesFile, WasGivenUpAnywhere}
 use Rattle.lab_program_moves.specs.Moves.{IsMigration, MoveTask}
 use Rattle.lab_program.specs.CommandLine.{IsDone}
 use Rattle.lab_program_app.specs.Explaining.{Stopped}
@@ -141,8 +141,8 @@ module _ {S Volume : Type 0} (disk : Ghosts S) (files : Volume → List ℕ → 
       (IsUnmade disk (WasClosed closes) (files volume file)) (inl (inl tt)))
       (is_lab_code lab) told
   never_done (serves file port count) input told =
-      no_serving before after told_before told_after status (file_keeper disk) (IsOurs disk (files volume file).holds) (IsOursAt disk files file)
-      (WasGivenUp closes files file) (IsToldAs (IsUnopenedAt disk (WasClosed closes) files file)) (IsUnopened disk (WasClosed closes) (files volume file)) drawing count
+      no_serving before after told_before told_after status (file_keeper disk) (IsOurs disk (files volume file).holds) (IsOursAnywhere disk files)
+      (WasGivenUpAnywhere closes files) (IsNotOpenedAnywhere disk closes files) (IsUnopened disk (WasClosed closes) (files volume file)) drawing count
       (inl tt) told
   never_done (copies file lab from to) input told = no_copy_if (files volume file) (record {
     moments = drawing.moments;

@@ -9,11 +9,11 @@ use Rattle.lab_forms_streams.specs.declared.sending.WriteFault.{WriteFault as Un
 use Rattle.lab_program_host.specs.Sources.{Drawing}
 use Rattle.lab_program_host.specs.TaskEnds.{TaskEnd}
 use Rattle.lab_program_files.specs.FileWorlds.{file_keeper}
-use Rattle.lab_program_opening.specs.Ends.{WasClosed, WasGivenUp}
-use Rattle.lab_program_opening.specs.Files.{IsOurs, IsOursAt, IsUnopened, IsUnopenedAt}
+use Rattle.lab_program_opening.specs.Ends.{WasClosed}
+use Rattle.lab_program_opening.specs.Files.{IsOurs, IsUnopened}
 use Rattle.lab_program_opening.specs.Volumes.{FileAt}
 use Rattle.lab_program_replay.specs.Replays.{IsReplay}
-use Rattle.lab_program_files.specs.Serving.{IsToldAs, ServesFile}
+use Rattle.lab_program_files.specs.Serving.{IsNotOpenedAnywhere, IsOursAnywhere, ServesFile, WasGivenUpAnywhere}
 use Rattle.lab_program_moves.specs.Moves.{IsMigration}
 use Rattle.lab_program.specs.Laboratories.{IsCopiedIf, IsFounded, IsRehearsed}
 use Rattle.lab_program_words.specs.Tasks.{Asked, founds, serves, copies, migrates, checks, replays, rehearses}
@@ -35,8 +35,8 @@ module _ {S Volume : Type 0} (disk : Ghosts S) (files : Volume → List ℕ → 
       (record { drawing = drawing; code = lab; body = input }) end
   IsDone drawing (serves file port count) input end =
       ServesFile (file_keeper disk) (IsOurs disk (files volume file).holds)
-      (IsOursAt disk files file) (WasGivenUp closes files file)
-      (IsToldAs (IsUnopenedAt disk (WasClosed closes) files file))
+      (IsOursAnywhere disk files) (WasGivenUpAnywhere closes files)
+      (IsNotOpenedAnywhere disk closes files)
       (IsUnopened disk (WasClosed closes) (files volume file)) drawing count end
   IsDone drawing (copies file lab from to) input end =
       IsCopiedIf disk (files volume file) (WasClosed closes) (record {

@@ -71,7 +71,13 @@ socket of this machine, at moment S, and prints the reply. The input is a JSON o
 /// The greatest number of connections that are served.
 const MOST_CONNECTIONS: u32 = 1_000_000_000;
 
-/// The greatest number of a record.
+/// The same number, as `clap` takes it.
+const LAST_CONNECTION: i64 = MOST_CONNECTIONS as i64;
+
+/// The last moment, as `clap` takes it.
+const LAST_MOMENT: i64 = LAST_SECOND as i64;
+
+/// The greatest number of a record, as `clap` takes it.
 const LAST_RECORD: i64 = LAST_ORDINAL as i64;
 
 // ---- arguments
@@ -118,7 +124,7 @@ fn moment_argument<'a>(alloc: Global) -> Arg<'a>
 {
     let help = "Seconds since 1970-01-01T00:00:00Z";
     wanted_argument(alloc, "moment", "S", help).value_parser(value_parser!(i64).range(
-        0..=LAST_SECOND as i64,
+        0..=LAST_MOMENT,
     ))
 }
 
@@ -138,7 +144,7 @@ fn count_argument<'a>(alloc: Global) -> Arg<'a>
 {
     named_argument(alloc, "count", "K", "Number of connections to serve")
         .default_value("1000000")
-        .value_parser(value_parser!(u32).range(1..=MOST_CONNECTIONS as i64))
+        .value_parser(value_parser!(u32).range(1..=LAST_CONNECTION))
 }
 
 // The number of a record.

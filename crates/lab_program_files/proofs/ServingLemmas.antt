@@ -22,6 +22,12 @@ module _ {S : Type 0} (keeper : Ghosts S) (found opened closed : S → Type 0)
   serves_to None left finished there serving is = absurd there
   serves_to (Some desk) left finished there serving is = (desk, left, there, serving, is)
 
+-- a desk over the keeper that was found
+pub found_over : {S : Type 0} (found : S → Type 0) (live : Option (Served S)) (kept : S) →
+    IsSomeAnd live (λ desk. desk.keeper ≡ kept) → found kept → IsSomeAnd live (λ desk. found desk.keeper)
+found_over found None kept is there = absurd is
+found_over found (Some desk) kept is there = subst found (sym is) there
+
 -- what is left of a desk over the keeper that was found
 pub found_left : {S : Type 0} (found : S → Type 0) (left : Option (Served S))
     (finished : Option S) → finished ≡ option_map (λ desk. desk.keeper) left →

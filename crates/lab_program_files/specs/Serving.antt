@@ -1,6 +1,9 @@
 -- Serving the laboratories of a file.
-use Rattle.std.specs.Prelude.{◌≡◌, ◌⊎◌, ℕ, Option, Some, option_map, IfSome}
+use Rattle.std.specs.Prelude.{◌≡◌, ◌⊎◌, ℕ, List, Option, Some, Result, option_map, IfSome}
 use Rattle.std.specs.Io.KnownBytes.{Keeps}
+use Rattle.sqlite_trees.specs.declared.store.Store.{Ghosts as DiskOf}
+use Rattle.sqlite.specs.declared.error.Error.{Error}
+use Rattle.sqlite.specs.Held.{Held}
 use Rattle.lab_forms_texts.specs.declared.refusals.Fault.{Fault}
 use Rattle.lab_forms_texts.specs.declared.refusals.Fault.TheVariants.{Memory, Refused}
 use Rattle.lab_records_keeper.specs.declared.faults.BadStore.{BadStore}
@@ -13,6 +16,9 @@ use Rattle.lab_program_host.specs.TaskEnds.{TaskEnd}
 use Rattle.lab_forms_streams.specs.Sending.{read_fault_word}
 use Rattle.lab_program_opening.specs.declared.faults.OpenFault.{OpenFault}
 use Rattle.lab_program_opening.specs.declared.faults.OpenFault.TheVariants.{File}
+use Rattle.lab_program_opening.specs.Ends.{WasClosed, WasGivenUp}
+use Rattle.lab_program_opening.specs.Files.{IsOursAt, IsUnopenedAt}
+use Rattle.lab_program_opening.specs.Volumes.{FileAt}
 use Rattle.lab_program_opening.specs.Faults.{Declines, TellsWord}
 
 -- the fault with which requests are refused while the file isn't opened
@@ -20,12 +26,29 @@ abbrev pub keeper_fault : OpenFault → Fault BadStore
 keeper_fault (File OutOfMemory) = Memory
 keeper_fault _ = Refused (record {})
 
--- a fault that stands for one of which this holds
-abbrev pub IsToldAs : (OpenFault → Type 0) → Fault BadStore → Type 0
-IsToldAs Holds told = (fault : OpenFault) × Holds fault × (told ≡ keeper_fault fault)
+-- ---- the file that is opened anew, at whatever path and whenever
+
+module _ {S Volume : Type 0} (disk : DiskOf S) (closes : Held S → Result (Unit {0}) Error → Type 0)
+    (file : Volume → List ℕ → FileAt) where
+  -- it wasn't opened, which has its cause: requests are refused with this fault
+  abbrev pub IsNotOpenedAnywhere : Fault BadStore → Type 0
+  IsNotOpenedAnywhere told = (path : List ℕ) × (fault : OpenFault)
+      × IsUnopenedAt disk (WasClosed closes) file path fault × (told ≡ keeper_fault fault)
+
+module _ {S Volume : Type 0} (disk : DiskOf S) (file : Volume → List ℕ → FileAt) where
+  abbrev pub IsOursAnywhere : Held S → Type 0
+  IsOursAnywhere conn = (path : List ℕ) × IsOursAt disk file path conn
+
+module _ {S Volume : Type 0} (closes : S → Result (Unit {0}) Error → Type 0)
+    (file : Volume → List ℕ → FileAt) where
+  abbrev pub WasGivenUpAnywhere : S → Type 0
+  WasGivenUpAnywhere conn = (path : List ℕ) × WasGivenUp closes file path conn
+
+-- ---- the task
 
 module _ {S : Type 0} (keeper : Ghosts S) (found opened closed : S → Type 0)
-    (unmended : Fault BadStore → Type 0) (unopened : OpenFault → Type 0) (drawing : Drawing) (count : ℕ) (end : TaskEnd) where
+    (unmended : Fault BadStore → Type 0) (unopened : OpenFault → Type 0) (drawing : Drawing)
+    (count : ℕ) (end : TaskEnd) where
   -- from the keeper of the file that was found on so many connections were served, unless a fault
   -- came, which was told; over each keeper that was opened each laboratory stays within its limits
   -- and has all that was recorded; and this one is left to be closed. Requests that came while none

@@ -1,6 +1,6 @@
 //! Who opens the file at a path, and opens it anew.
 
-ghost use Rattle.std.specs.Prelude.{◌≡◌, ℕ, List};
+ghost use Rattle.std.specs.Prelude.{◌≡◌};
 ghost use Rattle.lab_program_opening.specs.Ends.{WasGivenUp};
 ghost use Rattle.lab_program_files.specs.Serving.{keeper_fault};
 
@@ -12,38 +12,17 @@ use lab_store::Store;
 use lab_store_files::FileFault;
 use sqlite::Connection;
 use std::alloc::Global;
-use std::marker::{Brand, PhantomData};
-
-/// The path of a file, in the type of who opens it, so that the contracts of whoever serves can say
-/// which file was opened.
-pub trait AtPath {
-    /// The path.
-    ghost path: { List ℕ };
-}
-
-impl AtPath for Brand {
-    ghost use Rattle.std.specs.Prelude.{[]};
-
-    ghost path = { [] };
-}
 
 /// Who opens the file of laboratories at a path.
 #[derive(Drop)]
-pub struct FileOpener<'a, P: AtPath> {
+pub struct FileOpener<'a> {
     path: &'a str,
-    of: PhantomData<P>,
-    ghost named: { path.now ≡ P.path },
 }
 
-impl<'a, P: AtPath> FileOpener<'a, P> {
+impl<'a> FileOpener<'a> {
     /// Who opens the file at the path.
-    pub fn new(path: &'a str) -> FileOpener<'a, P>
-        requires { path.now ≡ P.path }
-    {
-        FileOpener {
-            path,
-            of: PhantomData,
-        }
+    pub fn new(path: &'a str) -> FileOpener<'a> {
+        FileOpener { path }
     }
 }
 
@@ -72,22 +51,20 @@ fn opening_fault(fault: OpenFault) -> KeeperFault
     }
 }
 
-impl<'a, P: AtPath, H: Volume> Opener<H, Store<H::Disk>> for FileOpener<'a, P>
+impl<'a, H: Volume> Opener<H, Store<H::Disk>> for FileOpener<'a>
 where
     Connection<H::Disk>: Closable,
 {
-    ghost use Rattle.lab_program_opening.specs.Ends.{WasClosed, WasGivenUp};
-    ghost use Rattle.lab_program_opening.specs.Files.{IsOursAt, IsUnopenedAt};
-    ghost use Rattle.lab_program_files.specs.Serving.{IsToldAs};
+    ghost use Rattle.lab_program_files.specs.Serving.{IsNotOpenedAnywhere, IsOursAnywhere, WasGivenUpAnywhere};
 
     type Finished = Finished<H::Disk>;
 
-    ghost opened = { IsOursAt H.Disk.Store H.file P.path };
+    ghost opened = { IsOursAnywhere H.Disk.Store H.file };
 
-    ghost unopened = { IsToldAs (IsUnopenedAt H.Disk.Store
-        (WasClosed ⟦<Connection<H::Disk> as Closable>⟧.closes) H.file P.path) };
+    ghost unopened = { IsNotOpenedAnywhere H.Disk.Store
+        ⟦<Connection<H::Disk> as Closable>⟧.closes H.file };
 
-    ghost closed = { WasGivenUp ⟦<Connection<H::Disk> as Closable>⟧.closes H.file P.path };
+    ghost closed = { WasGivenUpAnywhere ⟦<Connection<H::Disk> as Closable>⟧.closes H.file };
 
     ghost keeper_of = { λ finished. finished };
 

@@ -1,15 +1,15 @@
 //! `labdesk serve`: the laboratories of a file are served on a port of this machine.
 
 ghost use Rattle.lab_program_files.specs.FileWorlds.{file_keeper};
-ghost use Rattle.lab_program_opening.specs.Ends.{WasClosed, WasGivenUp};
-ghost use Rattle.lab_program_opening.specs.Files.{IsOurs, IsOursAt, IsUnopened, IsUnopenedAt};
+ghost use Rattle.lab_program_opening.specs.Ends.{WasClosed};
+ghost use Rattle.lab_program_opening.specs.Files.{IsOurs, IsUnopened};
 ghost use Rattle.lab_program_opening.specs.Faults.{Declines};
-ghost use Rattle.lab_program_files.specs.Serving.{IsToldAs, ServesAs, ServesFile};
+ghost use Rattle.lab_program_files.specs.Serving.{IsNotOpenedAnywhere, IsOursAnywhere, ServesAs, ServesFile, WasGivenUpAnywhere};
 ghost use Rattle.lab_program_host.specs.Hosts.{drawing_between, end_between};
 ghost use Rattle.std.specs.Prelude.{◌≡◌, option_map, IfErr, IfOk, IfSome, IsSomeAnd};
 
 use crate::files::open_file;
-use crate::opening::{AtPath, FileOpener, close_uncut};
+use crate::opening::{FileOpener, close_uncut};
 use lab_forms_streams::WriteFault;
 use lab_program_host::{Host, Outside, ServerFault, Streams, Writers};
 use lab_program_opening::{
@@ -22,16 +22,14 @@ use lab_store_files::FileFault;
 use sqlite::{Alter, Connection};
 use std::alloc::Global;
 use std::io::Write;
-use std::marker::Brand;
 
 // A live desk with a desk over a store of the file at the path. Without memory the store is handed
 // back.
-fn live_desk_over<P: AtPath, S: Alter + Drop>(
+fn live_desk_over<S: Alter + Drop>(
     alloc: Global,
     path: &str,
     store: Store<S>,
-) -> Result<LiveDesk<Store<S>, FileOpener<'_, P>>, Unmade<Store<S>>>
-    requires { path.now ≡ P.path }
+) -> Result<LiveDesk<Store<S>, FileOpener<'_>>, Unmade<Store<S>>>
     ensures live { IfOk result (λ live_desk. IsSomeAnd live_desk (λ desk. desk.keeper ≡ store)) }
     ensures unmade { IfErr result (λ unmade. unmade.keeper ≡ store) }
 {
@@ -41,14 +39,13 @@ fn live_desk_over<P: AtPath, S: Alter + Drop>(
 
 // A live desk with a desk over the file at the path. If there is no memory for it, the connection
 // is left to be closed.
-fn live_desk_opened<'p, P: AtPath, H: Volume>(
+fn live_desk_opened<'p, H: Volume>(
     alloc: Global,
     volume: &mut H,
     path: &'p str,
-) -> Result<LiveDesk<Store<H::Disk>, FileOpener<'p, P>>, Ended<OpenFault, H::Disk>>
+) -> Result<LiveDesk<Store<H::Disk>, FileOpener<'p>>, Ended<OpenFault, H::Disk>>
 where
     Connection<H::Disk>: Closable,
-    requires { path.now ≡ P.path }
     ensures ours { IfOk result (λ live_desk. IsSomeAnd live_desk (λ desk.
         IsOurs H.Disk.Store (H.file volume.old path.now).holds desk.keeper)) }
     ensures unopened { IfErr result (λ unopened. IsUnopened H.Disk.Store
@@ -99,9 +96,7 @@ fn decline_to_serve<M: Outside<Volume: Volume>, E: Write>(
 }
 
 // What a live desk leaves to be closed.
-fn left_of<P: AtPath, S: Alter + Drop>(
-    live_desk: LiveDesk<Store<S>, FileOpener<'_, P>>,
-) -> Option<Finished<S>>
+fn left_of<S: Alter + Drop>(live_desk: LiveDesk<Store<S>, FileOpener<'_>>) -> Option<Finished<S>>
     ensures { result ≡ option_map (λ desk. desk.keeper) live_desk.entry }
 {
     let store = live_desk.into_keeper()?;
@@ -110,7 +105,7 @@ fn left_of<P: AtPath, S: Alter + Drop>(
 
 // Serves the laboratories of the file at the path. Answers the status, and the connection, which is
 // left to be closed.
-fn serve_file<P: AtPath, M: Outside<Volume: Volume>, W: Writers>(
+fn serve_file<M: Outside<Volume: Volume>, W: Writers>(
     host: &mut Host<'_, M>,
     path: &str,
     port: u16,
@@ -119,15 +114,13 @@ fn serve_file<P: AtPath, M: Outside<Volume: Volume>, W: Writers>(
 ) -> Ended<Result<u8, WriteFault>, <M::Volume as Volume>::Disk>
 where
     Connection<<M::Volume as Volume>::Disk>: Closable,
-    requires { path.now ≡ P.path }
     ensures { ServesAs (file_keeper M.Volume.Disk.Store)
         (IsOurs M.Volume.Disk.Store (M.Volume.file host.old.volume path.now).holds)
-        (IsOursAt M.Volume.Disk.Store M.Volume.file P.path)
-        (WasGivenUp ⟦<Connection<<M::Volume as Volume>::Disk> as Closable>⟧.closes M.Volume.file
-        P.path)
-        (IsToldAs (IsUnopenedAt M.Volume.Disk.Store
-        (WasClosed ⟦<Connection<<M::Volume as Volume>::Disk> as Closable>⟧.closes)
-        M.Volume.file P.path))
+        (IsOursAnywhere M.Volume.Disk.Store M.Volume.file)
+        (WasGivenUpAnywhere ⟦<Connection<<M::Volume as Volume>::Disk> as Closable>⟧.closes
+        M.Volume.file)
+        (IsNotOpenedAnywhere M.Volume.Disk.Store
+        ⟦<Connection<<M::Volume as Volume>::Disk> as Closable>⟧.closes M.Volume.file)
         (IsUnopened M.Volume.Disk.Store
         (WasClosed ⟦<Connection<<M::Volume as Volume>::Disk> as Closable>⟧.closes)
         (M.Volume.file host.old.volume path.now))
@@ -135,7 +128,7 @@ where
         (end_between W.Output.contents W.Errors.contents streams.old streams.new result.ending)
         result.finished }
 {
-    let mut live_desk = match live_desk_opened::<P, M::Volume>(host.alloc, &mut host.volume, path) {
+    let mut live_desk = match live_desk_opened(host.alloc, &mut host.volume, path) {
         Ok(live_desk) => live_desk,
         Err(unopened) => {
             let Ended {
@@ -181,19 +174,18 @@ where
     Connection<<M::Volume as Volume>::Disk>: Closable,
     ensures { ServesFile (file_keeper M.Volume.Disk.Store)
         (IsOurs M.Volume.Disk.Store (M.Volume.file host.old.volume path.now).holds)
-        (IsOursAt M.Volume.Disk.Store M.Volume.file path.now)
-        (WasGivenUp ⟦<Connection<<M::Volume as Volume>::Disk> as Closable>⟧.closes M.Volume.file
-        path.now)
-        (IsToldAs (IsUnopenedAt M.Volume.Disk.Store
-        (WasClosed ⟦<Connection<<M::Volume as Volume>::Disk> as Closable>⟧.closes)
-        M.Volume.file path.now))
+        (IsOursAnywhere M.Volume.Disk.Store M.Volume.file)
+        (WasGivenUpAnywhere ⟦<Connection<<M::Volume as Volume>::Disk> as Closable>⟧.closes
+        M.Volume.file)
+        (IsNotOpenedAnywhere M.Volume.Disk.Store
+        ⟦<Connection<<M::Volume as Volume>::Disk> as Closable>⟧.closes M.Volume.file)
         (IsUnopened M.Volume.Disk.Store
         (WasClosed ⟦<Connection<<M::Volume as Volume>::Disk> as Closable>⟧.closes)
         (M.Volume.file host.old.volume path.now))
         (drawing_between M.Clock.coming M.Chance.coming host.old host.new) count
         (end_between W.Output.contents W.Errors.contents streams.old streams.new result) }
 {
-    let Ended { ending, finished } = serve_file::<Brand, M, W>(host, path, port, count, streams);
+    let Ended { ending, finished } = serve_file(host, path, port, count, streams);
     if let Some(finished) = finished {
         close_uncut(&mut host.volume, path, finished);
     }

@@ -16,8 +16,8 @@ use Rattle.lab_program_serve.specs.Visits.{listened}
 -- words that were drawn, unless a fault came, which was told; each keeper that was given up was
 -- closed, and this one was left
 pub record IsServing {S : Type 0} (keeper : Ghosts S) (opened closed : S → Type 0)
-    (unopened : Fault BadStore → Type 0) (first left : Option (Served S)) (drawing : Drawing) (count : ℕ) (end : TaskEnd) :
-    Type 0 where
+    (unopened : Fault BadStore → Type 0) (first left : Option (Served S)) (drawing : Drawing)
+    (count : ℕ) (end : TaskEnd) : Type 0 where
   pub ending : Result (Unit {0}) ServerFault
   pub announced : IsAnnounced ending end.before end.after
   pub served : IfSome first (λ desk. opened desk.keeper →

@@ -198,8 +198,8 @@ fn serve_listener<M: Outside, S: Keeper + Drop, O: Opener<M::Volume, S> + Drop, 
 ) -> Result<(), ServerFault>
     ensures printed { IsAnnounced result (W.contents output.old) (W.contents output.new) }
     ensures served { IfSome live_desk.old (λ desk. O.opened desk.keeper →
-        ServesTimes S.Keeper O.opened O.closed O.unopened desk.keeper live_desk.new result count (listened
-        (drawing_between M.Clock.coming M.Chance.coming host.old host.new))) }
+        ServesTimes S.Keeper O.opened O.closed O.unopened desk.keeper live_desk.new result count
+        (listened (drawing_between M.Clock.coming M.Chance.coming host.old host.new))) }
 {
     let mut listening = Listening::new(listener, Rest::new(host.net))?;
     serve_over(host, live_desk, &mut listening, count, output)

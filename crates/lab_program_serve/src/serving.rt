@@ -84,7 +84,8 @@ where
     ensures printed { IsPrinted (listening_line (L.listens_at connections.old)) result
         (W.contents output.old) (W.contents output.new) }
     ensures served { IfSome live_desk.old (λ desk. O.opened desk.keeper →
-        ServesTimes S.Keeper O.opened O.closed O.unopened desk.keeper live_desk.new result count (record {
+        ServesTimes S.Keeper O.opened O.closed O.unopened desk.keeper live_desk.new result count
+        (record {
           coming = L.coming connections.old;
           left = L.coming connections.new;
           drawing = drawing_between M.Clock.coming M.Chance.coming host.old host.new;

@@ -20,6 +20,9 @@ use sqlite::types::ValueRef;
 use sqlite::{Alter, Connection, Error, Row};
 use sqlite_schema::schema::Schema;
 
+/// The number of this schema, as a column holds it.
+const OWN_SCHEMA: i64 = SCHEMA as i64;
+
 /// Law: a file owes one answer, and not two, whatever schema is wanted, whatever tables it has and
 /// whatever number it names.
 pub fn one_answer_is_owed()
@@ -57,10 +60,10 @@ fn check_number(number: i64) -> Result<(), FileFault>
     if number < 1 {
         return Err(FileFault::NotADeskFile);
     }
-    if number < SCHEMA as i64 {
+    if number < OWN_SCHEMA {
         return Err(FileFault::SchemaOld(number.unsigned_abs()));
     }
-    if number > SCHEMA as i64 {
+    if number > OWN_SCHEMA {
         return Err(FileFault::SchemaNew(number.unsigned_abs()));
     }
     Ok(())

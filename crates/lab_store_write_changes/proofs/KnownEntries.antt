@@ -37,7 +37,7 @@ known_parents = (refl, refl, refl)
 
 -- ---- rows more: each has the next id of its table, whichever its place is
 
-abbrev noted : Entry
+abbrev pub noted : Entry
 noted = record bare_entry {
   key = codes "note";
   value = codes "new";
@@ -46,7 +46,7 @@ noted = record bare_entry {
   reason = Some (codes "forgotten");
 }
 
-abbrev rejected : Signature
+abbrev pub rejected : Signature
 rejected = record bare_signature {
   person = codes "eve";
   name = codes "Eve Eden";

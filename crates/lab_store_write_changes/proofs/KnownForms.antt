@@ -25,10 +25,10 @@ known_parents = (refl, refl, refl)
 
 -- ---- rows more: each has the next id of its table, whichever its place is
 
-abbrev wanted : Field
+abbrev pub wanted : Field
 wanted = record bare_field { key = codes "mould"; label = codes "Mould"; required = true; kind = YesNo }
 
-abbrev approved : FormVersion
+abbrev pub approved : FormVersion
 approved = record bare_form { code = codes "air"; version = 2; form = record { fields = wanted ∷ []; approval = true } }
 
 pub known_leaves :

@@ -17,6 +17,7 @@ pub mod KnownEntries
 pub mod KnownForms
 pub mod KnownNewborns
 pub mod KnownRecords
+pub mod KnownTried
 pub mod LabMore
 pub mod Leaving
 pub mod RecordKeyLemmas

@@ -1,7 +1,9 @@
 -- Which statements changes may try, and over which tables: of one change, the statements of its
 -- writer; of several, those of one of them, over the tables that those before it made.
-use Rattle.std.specs.Prelude.{◌≡◌, ◌⊎◌, ℕ, ℤ, pos, List, Some, None}
+use Rattle.std.specs.Prelude.{◌≡◌, ◌⊎◌, ℕ, ℤ, pos, List, Option, Some, None, Result}
 use Rattle.sqlite_keyed.specs.Keyed.{next_key}
+use Rattle.sqlite.specs.declared.error.Error.{Error}
+use Rattle.sqlite.specs.State.{State}
 use Rattle.lab_forms.specs.declared.forms.Field.{Field}
 use Rattle.lab_seal_versions.specs.declared.rows.EntryRow.{EntryRow as Entry}
 use Rattle.lab_records_kept.specs.declared.records.FormVersion.{FormVersion}
@@ -15,14 +17,25 @@ use Rattle.lab_store_tables.specs.Columns.{kind_names}
 use Rattle.lab_store_tables.specs.Rows.{LabRow, RecordRow, Tables, form_id, field_id, record_id, version_id}
 use Rattle.lab_store_tables.specs.Changes.{person_named, choice_row_of, field_row_of, form_row_of, put_field, entry_row_of, signature_row_of, InTurn, in_lab, form_named, record_named, record_row_of, version_row_of, AddsChoice, AddsField, AddsEntry, AddsSignature, AddsVersion}
 use Rattle.lab_store_tables.specs.Steps.{StepsBy}
+use Rattle.lab_store_write.specs.declared.named.Giver.{Giver}
+use Rattle.lab_store_write.specs.Calls.{WritesTrying, MadeFrom}
 use Rattle.lab_store_write.specs.Causes.{Statement, Tries}
+use Rattle.lab_store_write.specs.Givers.{Knows}
 use Rattle.lab_store_write.specs.Statements.{asking_person, setting_last, setting_strays}
 use Rattle.lab_store_write.specs.Tried.{Over, TriesIfAny, TriesInTurn, TriesToAddPerson, TriesToSetPerson, TriesToAddSession, TriesToSetSession, TriesToCloseOf, TriesToAddTold}
+pub use Rattle.lab_store_write.specs.Tried.{Only, TriedFrom}
 use Rattle.lab_store_write_changes.specs.FormsAdded.{with_form}
 use Rattle.lab_store_write_changes.specs.Framed.{IsFramed}
 use Rattle.lab_store_write_changes.specs.RecordsAdded.{with_record, with_version}
-use Rattle.lab_store_write_changes.specs.Statements.{asking_record, asking_form, adding_record, counting_records, adding_version, setting_current, adding_form, asking_fields, adding_field, asking_choices, adding_choice, asking_current, asking_version, asking_entries, adding_entry, asking_signatures, adding_signature}
+pub use Rattle.lab_store_write_changes.specs.Statements.{adding_entry_at, adding_signature_at, asking_record, asking_form, adding_record, counting_records, adding_version, setting_current, adding_form, asking_fields, adding_field, asking_choices, adding_choice, asking_current, asking_version, asking_entries, adding_entry, asking_signatures, adding_signature}
 use Rattle.lab_store_write_changes.specs.VersionsShown.{current_of, version_in_record}
+
+-- a writer that is given who gives the command, where that person is known
+abbrev pub WritesKnowing : {T A : Type 0} → ℤ → Option Giver → Tries
+    → (Tables → Tables → Type 0) → (T → ℕ × ℕ) → (T → State) → T → T → Result A Error → Type 0
+WritesKnowing lab giver tries step lender state old new result =
+    WritesTrying (TriedFrom (Knows lab giver) tries) lender state (MadeFrom (Knows lab giver) step)
+    old new result
 
 -- ---- forms
 

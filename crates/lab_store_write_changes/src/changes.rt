@@ -6,14 +6,12 @@ ghost use Rattle.sqlite.specs.Effect.{IsDatabase};
 ghost use Rattle.sqlite.specs.State.{HasCleanDisk};
 ghost use Rattle.lab_records_kept.specs.declared.changes.Change.TheVariants.{Last, Strays, SessionsClosed};
 ghost use Rattle.lab_store_tables.specs.Changes.{AppliesIn, InTurn};
-ghost use Rattle.lab_store_tables.specs.Held.{IsTyped};
 ghost use Rattle.lab_store_tables.specs.Steps.{AppliesWhereKept, StepsBy};
 ghost use Rattle.lab_store_write.specs.Calls.{Stays, Steps, WritesTrying, WritesUnlessTrying, FailsForTrying, MadeFrom};
 ghost use Rattle.lab_store_write.specs.Givers.{Knows};
-ghost use Rattle.lab_store_write.specs.Tried.{TriedFrom};
 ghost use Rattle.lab_store_write_changes.specs.Causes.{IsTooMuch, OneIsTooMuch};
 ghost use Rattle.lab_store_write_changes.specs.Framed.{spares_last, keeps_giver, StepsKnowing, framed};
-ghost use Rattle.lab_store_write_changes.specs.Tried.{TriesIn, TriesEach, TriesFramed, TriesAll};
+ghost use Rattle.lab_store_write_changes.specs.Tried.{TriedFrom, TriesIn, TriesEach, TriesFramed, TriesAll, WritesKnowing};
 
 use crate::framed::frame_of;
 use crate::{add_form, add_record, enter_row, open_version, sign_version};
@@ -51,10 +49,9 @@ fn change_sessions<W: Writable>(
     person: &PersonCode,
     closing: Closing,
 ) -> Result<(), Error>
-    ensures { WritesTrying
-        (TriedFrom (Knows lab.id giver.entry) (TriesIn lab.id (SessionsClosed person.now closing)))
-        W.lender W.state (MadeFrom (Knows lab.id giver.entry)
-        (AppliesWhereKept lab.id (SessionsClosed person.now closing))) tx.old tx.new result }
+    ensures { WritesKnowing lab.id giver.entry (TriesIn lab.id (SessionsClosed person.now closing))
+        (AppliesWhereKept lab.id (SessionsClosed person.now closing))
+        W.lender W.state tx.old tx.new result }
 {
     close_sessions(tx, lab, giver, person, closing)
 }
@@ -111,8 +108,6 @@ fn each_inside<W: Writable>(
         IsTrue (W.state tx.old).in_transaction → HasCleanDisk (W.state tx.new) →
         OnOk result (IsDatabase (W.state tx.old).now →
         Steps (StepsKnowing lab.id giver.entry changes.now) (W.state tx.old) (W.state tx.new)) }
-    ensures typed { IsTrue (W.state tx.old).in_transaction → HasCleanDisk (W.state tx.new) →
-        OnOk result (IsTyped (W.state tx.old).now → IsTyped (W.state tx.new).now) }
     ensures failed { IsTrue (keeps_giver giver.entry changes.now) →
         IsDatabase (W.state tx.old).now → FailsForTrying (λ _. OneIsTooMuch changes.now)
         (TriedFrom (Knows lab.id giver.entry) (TriesEach lab.id changes.now))

@@ -1,15 +1,11 @@
 //! The entries of a version, each added after those that the version has.
 
-ghost use Rattle.std.specs.Prelude.{pos};
 ghost use Rattle.lab_records_kept.specs.declared.changes.Change.TheVariants.{RowAdded};
 ghost use Rattle.lab_store_tables.specs.Changes.{AppliesIn, AddsEntry};
-ghost use Rattle.lab_store_write.specs.Calls.{WritesTrying, Becomes, MadeFrom};
+ghost use Rattle.lab_store_write.specs.Calls.{WritesTrying, Becomes};
 ghost use Rattle.lab_store_write.specs.Causes.{IsTooGreat};
-ghost use Rattle.lab_store_write.specs.Givers.{Knows};
-ghost use Rattle.lab_store_write.specs.Tried.{Only, TriedFrom};
-ghost use Rattle.lab_store_write_changes.specs.EntriesAdded.{entry_at, with_entry};
-ghost use Rattle.lab_store_write_changes.specs.Statements.{adding_entry};
-ghost use Rattle.lab_store_write_changes.specs.Tried.{TriesToAddEntry, TriesIn};
+ghost use Rattle.lab_store_write_changes.specs.EntriesAdded.{with_entry};
+ghost use Rattle.lab_store_write_changes.specs.Tried.{Only, TriesToAddEntry, TriesIn, WritesKnowing, adding_entry_at};
 
 use crate::named::current_version_at;
 use crate::places::entry_place;
@@ -30,10 +26,8 @@ fn insert_entry<W: Writable>(
     entry: &EntryRow,
 ) -> Result<usize, Error>
     requires { ¬ IsTooGreat place }
-    ensures { WritesTrying
-        (Only (adding_entry (entry_at version.id (pos 0) place person.id entry.now)))
-        W.lender W.state (Becomes (with_entry version.id place person.id entry.now))
-        tx.old tx.new result }
+    ensures { WritesTrying (Only (adding_entry_at version.id place person.id entry.now)) W.lender
+        W.state (Becomes (with_entry version.id place person.id entry.now)) tx.old tx.new result }
 {
     let key = entry.key.as_str();
     let value = entry.value.as_str();
@@ -65,11 +59,8 @@ pub(crate) fn add_entry<W: Writable>(
     version: RowId,
     entry: &EntryRow,
 ) -> Result<(), Error>
-    ensures { WritesTrying
-        (TriedFrom (Knows lab.id giver.entry) (TriesToAddEntry lab.id version.id entry.now))
-        W.lender W.state
-        (MadeFrom (Knows lab.id giver.entry) (AddsEntry lab.id version.id entry.now))
-        tx.old tx.new result }
+    ensures { WritesKnowing lab.id giver.entry (TriesToAddEntry lab.id version.id entry.now)
+        (AddsEntry lab.id version.id entry.now) W.lender W.state tx.old tx.new result }
 {
     let person = person_id_by(tx, lab, giver, &entry.person)?;
     let place = entry_place(tx, version)?;
@@ -88,11 +79,8 @@ pub fn enter_row<W: Writable>(
     wanted: Ordinal,
     entry: &EntryRow,
 ) -> Result<(), Error>
-    ensures { WritesTrying
-        (TriedFrom (Knows lab.id giver.entry) (TriesIn lab.id (RowAdded wanted entry.now)))
-        W.lender W.state
-        (MadeFrom (Knows lab.id giver.entry) (AppliesIn lab.id (RowAdded wanted entry.now)))
-        tx.old tx.new result }
+    ensures { WritesKnowing lab.id giver.entry (TriesIn lab.id (RowAdded wanted entry.now))
+        (AppliesIn lab.id (RowAdded wanted entry.now)) W.lender W.state tx.old tx.new result }
 {
     let version = current_version_at(tx, lab, wanted)?;
     add_entry(tx, lab, giver, version, entry)

@@ -8,10 +8,8 @@ ghost use Rattle.lab_store_tables.specs.Columns.{kind_names};
 ghost use Rattle.lab_store_tables.specs.Changes.{AppliesIn, InTurn, AddsChoice, AddsField, form_row_of};
 ghost use Rattle.lab_store_write.specs.Calls.{AnswersTrying, WritesTrying, Becomes};
 ghost use Rattle.lab_store_write.specs.Causes.{IsTooGreat};
-ghost use Rattle.lab_store_write.specs.Tried.{Only};
 ghost use Rattle.lab_store_write_changes.specs.FormsAdded.{choice_at, with_choice, field_at, with_field, with_form};
-ghost use Rattle.lab_store_write_changes.specs.Statements.{adding_choice, adding_field, adding_form};
-ghost use Rattle.lab_store_write_changes.specs.Tried.{TriesToAddChoice, TriesToAddChoices, TriesToAddField, TriesToAddFields, TriesIn};
+ghost use Rattle.lab_store_write_changes.specs.Tried.{Only, TriesToAddChoice, TriesToAddChoices, TriesToAddField, TriesToAddFields, TriesIn, adding_choice, adding_field, adding_form};
 
 use crate::kinds::{
     decimals_or_null, high_or_null, kind_word, low_or_null, size_or_null, unit_or_null,

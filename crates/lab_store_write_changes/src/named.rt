@@ -7,9 +7,8 @@ ghost use Rattle.lab_store_tables.specs.Rows.{record_id};
 ghost use Rattle.lab_store_tables.specs.Changes.{record_named};
 ghost use Rattle.lab_store_write.specs.Calls.{AnswersTrying, Finds};
 ghost use Rattle.lab_store_write.specs.Causes.{IsShown};
-ghost use Rattle.lab_store_write.specs.Tried.{Only};
-ghost use Rattle.lab_store_write_changes.specs.Statements.{asking_record, asking_current, asking_version};
 ghost use Rattle.lab_store_write_changes.specs.VersionsShown.{records_shown, current_of, version_in_record, versions_shown, first_value, IsUnversioned};
+ghost use Rattle.lab_store_write_changes.specs.Tried.{Only, asking_record, asking_current, asking_version};
 
 use lab_forms_texts::Ordinal;
 use lab_store_write::values::{id_value, ordinal_value};
@@ -111,8 +110,8 @@ fn version_rows<W: Writable>(
     ensures found { AnswersTrying (Only (asking_version lab.id wanted version)) W.lender W.state
         (λ rows. Finds (λ t. rows.items ≡ versions_shown (λ _. version) lab.id wanted t))
         tx.old tx.new result }
-    ensures shown { HasCleanDisk (W.state tx.new) → IfOk result (λ rows.
-        IsShown (asking_version lab.id wanted version) (W.state tx.old) (W.state tx.new) rows.items) }
+    ensures shown { HasCleanDisk (W.state tx.new) → IfOk result (λ rows. IsShown
+        (asking_version lab.id wanted version) (W.state tx.old) (W.state tx.new) rows.items) }
 {
     tx.query_all(
         "SELECT versions.id FROM records LEFT JOIN versions ON versions.record = records.id AND versions.number = ?3 WHERE records.lab = ?1 AND records.number = ?2 ORDER BY records.id, versions.id",

@@ -6,8 +6,7 @@ ghost use Rattle.lab_store_tables.specs.Changes.{form_named};
 ghost use Rattle.lab_store_write.specs.Calls.{AnswersTrying, Finds};
 ghost use Rattle.lab_store_write.specs.Causes.{IsShown};
 ghost use Rattle.lab_store_write_changes.specs.FormsShown.{forms_shown};
-ghost use Rattle.lab_store_write.specs.Tried.{Only};
-ghost use Rattle.lab_store_write_changes.specs.Statements.{asking_form};
+ghost use Rattle.lab_store_write_changes.specs.Tried.{Only, asking_form};
 
 use lab_forms_texts::{Key, Ordinal};
 use lab_store_write::values::{id_value, ordinal_value, text_value};
@@ -24,8 +23,8 @@ fn form_rows<W: Writable>(
     ensures found { AnswersTrying (Only (asking_form lab.id code.now version)) W.lender W.state
         (λ rows. Finds (λ t. rows.items ≡ forms_shown lab.id code.now version t))
         tx.old tx.new result }
-    ensures shown { HasCleanDisk (W.state tx.new) → IfOk result (λ rows.
-        IsShown (asking_form lab.id code.now version) (W.state tx.old) (W.state tx.new) rows.items) }
+    ensures shown { HasCleanDisk (W.state tx.new) → IfOk result (λ rows. IsShown
+        (asking_form lab.id code.now version) (W.state tx.old) (W.state tx.new) rows.items) }
 {
     tx.query_all(
         "SELECT id FROM forms WHERE lab = ?1 AND code = ?2 AND version = ?3 ORDER BY id",

@@ -5,8 +5,7 @@ ghost use Rattle.lab_store_write.specs.Calls.{AnswersTrying, Finds};
 ghost use Rattle.lab_store_write.specs.Causes.{IsTooGreat};
 ghost use Rattle.lab_store_write_changes.specs.FieldsShown.{is_field_of, is_choice_of};
 ghost use Rattle.lab_store_write_changes.specs.VersionsShown.{is_entry_of, is_signature_of};
-ghost use Rattle.lab_store_write.specs.Tried.{Only};
-ghost use Rattle.lab_store_write_changes.specs.Statements.{asking_fields, asking_choices, asking_entries, asking_signatures};
+ghost use Rattle.lab_store_write_changes.specs.Tried.{Only, asking_fields, asking_choices, asking_entries, asking_signatures};
 
 use lab_store_write::{RowId, Writable, place_below};
 use sqlite::Error;

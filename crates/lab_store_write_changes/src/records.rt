@@ -5,12 +5,10 @@ ghost use Rattle.sqlite_keyed.specs.Keyed.{next_key};
 ghost use Rattle.lab_records_kept.specs.declared.changes.Change.TheVariants.{RecordAdded};
 ghost use Rattle.lab_store_tables.specs.Rows.{LabRow, record_id};
 ghost use Rattle.lab_store_tables.specs.Changes.{AppliesIn, in_lab, InTurn, AddsVersion, record_row_of};
-ghost use Rattle.lab_store_write.specs.Calls.{AnswersTrying, WritesTrying, Becomes, MadeFrom};
+ghost use Rattle.lab_store_write.specs.Calls.{AnswersTrying, WritesTrying, Becomes};
 ghost use Rattle.lab_store_write.specs.Givers.{Knows, EachKnowing};
-ghost use Rattle.lab_store_write.specs.Tried.{Only, TriedFrom};
 ghost use Rattle.lab_store_write_changes.specs.RecordsAdded.{with_record};
-ghost use Rattle.lab_store_write_changes.specs.Statements.{adding_record, counting_records};
-ghost use Rattle.lab_store_write_changes.specs.Tried.{TriesToAddVersions, TriesIn};
+ghost use Rattle.lab_store_write_changes.specs.Tried.{Only, TriedFrom, TriesToAddVersions, TriesIn, WritesKnowing, adding_record, counting_records};
 
 use crate::named_forms::form_id_at;
 use crate::versions::add_version;
@@ -75,9 +73,8 @@ fn add_versions<W: Writable>(
     kept: RowId,
     versions: &[Version],
 ) -> Result<(), Error>
-    ensures { WritesTrying
-        (TriedFrom (Knows lab.id giver.entry) (TriesToAddVersions lab.id kept.id versions.now))
-        W.lender W.state
+    ensures { WritesTrying (TriedFrom (Knows lab.id giver.entry)
+        (TriesToAddVersions lab.id kept.id versions.now)) W.lender W.state
         (InTurn (EachKnowing lab.id giver.entry (AddsVersion lab.id kept.id)) versions.now)
         tx.old tx.new result }
 {
@@ -97,11 +94,8 @@ pub fn add_record<W: Writable>(
     giver: Option<Giver<'_>>,
     kept: &Record,
 ) -> Result<(), Error>
-    ensures { WritesTrying
-        (TriedFrom (Knows lab.id giver.entry) (TriesIn lab.id (RecordAdded kept.now)))
-        W.lender W.state
-        (MadeFrom (Knows lab.id giver.entry) (AppliesIn lab.id (RecordAdded kept.now)))
-        tx.old tx.new result }
+    ensures { WritesKnowing lab.id giver.entry (TriesIn lab.id (RecordAdded kept.now))
+        (AppliesIn lab.id (RecordAdded kept.now)) W.lender W.state tx.old tx.new result }
 {
     let form = form_id_at(tx, lab, &kept.form.code, kept.form.version)?;
     let id = insert_record(tx, lab, form, kept)?;

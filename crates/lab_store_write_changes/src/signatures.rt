@@ -1,15 +1,11 @@
 //! The signatures of a version, each added after those that the version has.
 
-ghost use Rattle.std.specs.Prelude.{pos};
 ghost use Rattle.lab_records_kept.specs.declared.changes.Change.TheVariants.{SignatureAdded};
 ghost use Rattle.lab_store_tables.specs.Changes.{AppliesIn, AddsSignature};
-ghost use Rattle.lab_store_write.specs.Calls.{WritesTrying, Becomes, MadeFrom};
+ghost use Rattle.lab_store_write.specs.Calls.{WritesTrying, Becomes};
 ghost use Rattle.lab_store_write.specs.Causes.{IsTooGreat};
-ghost use Rattle.lab_store_write.specs.Givers.{Knows};
-ghost use Rattle.lab_store_write.specs.Tried.{Only, TriedFrom};
-ghost use Rattle.lab_store_write_changes.specs.EntriesAdded.{signature_at, with_signature};
-ghost use Rattle.lab_store_write_changes.specs.Statements.{adding_signature};
-ghost use Rattle.lab_store_write_changes.specs.Tried.{TriesToAddSignature, TriesIn};
+ghost use Rattle.lab_store_write_changes.specs.EntriesAdded.{with_signature};
+ghost use Rattle.lab_store_write_changes.specs.Tried.{Only, TriesToAddSignature, TriesIn, WritesKnowing, adding_signature_at};
 
 use crate::named::version_at;
 use crate::places::signature_place;
@@ -30,8 +26,7 @@ fn insert_signature<W: Writable>(
     signature: &Signature,
 ) -> Result<usize, Error>
     requires { ¬ IsTooGreat place }
-    ensures { WritesTrying
-        (Only (adding_signature (signature_at version.id (pos 0) place person.id signature.now)))
+    ensures { WritesTrying (Only (adding_signature_at version.id place person.id signature.now))
         W.lender W.state
         (Becomes (with_signature version.id place person.id signature.now)) tx.old tx.new result }
 {
@@ -67,11 +62,8 @@ pub(crate) fn add_signature<W: Writable>(
     version: RowId,
     signature: &Signature,
 ) -> Result<(), Error>
-    ensures { WritesTrying
-        (TriedFrom (Knows lab.id giver.entry) (TriesToAddSignature lab.id version.id signature.now))
-        W.lender W.state
-        (MadeFrom (Knows lab.id giver.entry) (AddsSignature lab.id version.id signature.now))
-        tx.old tx.new result }
+    ensures { WritesKnowing lab.id giver.entry (TriesToAddSignature lab.id version.id signature.now)
+        (AddsSignature lab.id version.id signature.now) W.lender W.state tx.old tx.new result }
 {
     let person = person_id_by(tx, lab, giver, &signature.person)?;
     let place = signature_place(tx, version)?;
@@ -91,10 +83,10 @@ pub fn sign_version<W: Writable>(
     version: Ordinal,
     signature: &Signature,
 ) -> Result<(), Error>
-    ensures { WritesTrying (TriedFrom (Knows lab.id giver.entry)
-        (TriesIn lab.id (SignatureAdded wanted version signature.now)))
-        W.lender W.state (MadeFrom (Knows lab.id giver.entry)
-        (AppliesIn lab.id (SignatureAdded wanted version signature.now))) tx.old tx.new result }
+    ensures { WritesKnowing lab.id giver.entry
+        (TriesIn lab.id (SignatureAdded wanted version signature.now))
+        (AppliesIn lab.id (SignatureAdded wanted version signature.now))
+        W.lender W.state tx.old tx.new result }
 {
     let signed = version_at(tx, lab, wanted, version)?;
     add_signature(tx, lab, giver, signed, signature)

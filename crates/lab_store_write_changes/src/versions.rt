@@ -6,12 +6,10 @@ ghost use Rattle.lab_records_kept.specs.declared.changes.Change.TheVariants.{Ver
 ghost use Rattle.lab_store_tables.specs.Rows.{version_id};
 ghost use Rattle.lab_store_tables.specs.Columns.{format_number};
 ghost use Rattle.lab_store_tables.specs.Changes.{AppliesIn, InTurn, AddsEntry, AddsSignature, AddsVersion, version_row_of, set_current as with_current};
-ghost use Rattle.lab_store_write.specs.Calls.{AnswersTrying, WritesTrying, Becomes, MadeFrom};
+ghost use Rattle.lab_store_write.specs.Calls.{AnswersTrying, WritesTrying, Becomes};
 ghost use Rattle.lab_store_write.specs.Givers.{Knows, EachKnowing};
-ghost use Rattle.lab_store_write.specs.Tried.{Only, TriedFrom};
 ghost use Rattle.lab_store_write_changes.specs.RecordsAdded.{with_version};
-ghost use Rattle.lab_store_write_changes.specs.Statements.{adding_version, setting_current};
-ghost use Rattle.lab_store_write_changes.specs.Tried.{TriesToAddEntries, TriesToAddSignatures, TriesToAddVersion, TriesIn};
+ghost use Rattle.lab_store_write_changes.specs.Tried.{Only, TriedFrom, TriesToAddEntries, TriesToAddSignatures, TriesToAddVersion, TriesIn, WritesKnowing, adding_version, setting_current};
 
 use crate::entries::add_entry;
 use crate::named::record_at;
@@ -74,9 +72,8 @@ fn add_entries<W: Writable>(
     version: RowId,
     rows: &[EntryRow],
 ) -> Result<(), Error>
-    ensures { WritesTrying
-        (TriedFrom (Knows lab.id giver.entry) (TriesToAddEntries lab.id version.id rows.now))
-        W.lender W.state
+    ensures { WritesTrying (TriedFrom (Knows lab.id giver.entry)
+        (TriesToAddEntries lab.id version.id rows.now)) W.lender W.state
         (InTurn (EachKnowing lab.id giver.entry (AddsEntry lab.id version.id)) rows.now)
         tx.old tx.new result }
 {
@@ -95,8 +92,7 @@ fn add_signatures<W: Writable>(
     signatures: &[Signature],
 ) -> Result<(), Error>
     ensures { WritesTrying (TriedFrom (Knows lab.id giver.entry)
-        (TriesToAddSignatures lab.id version.id signatures.now))
-        W.lender W.state
+        (TriesToAddSignatures lab.id version.id signatures.now)) W.lender W.state
         (InTurn (EachKnowing lab.id giver.entry (AddsSignature lab.id version.id)) signatures.now)
         tx.old tx.new result }
 {
@@ -117,11 +113,8 @@ pub(crate) fn add_version<W: Writable>(
     kept: RowId,
     version: &Version,
 ) -> Result<(), Error>
-    ensures { WritesTrying
-        (TriedFrom (Knows lab.id giver.entry) (TriesToAddVersion lab.id kept.id version.now))
-        W.lender W.state
-        (MadeFrom (Knows lab.id giver.entry) (AddsVersion lab.id kept.id version.now))
-        tx.old tx.new result }
+    ensures { WritesKnowing lab.id giver.entry (TriesToAddVersion lab.id kept.id version.now)
+        (AddsVersion lab.id kept.id version.now) W.lender W.state tx.old tx.new result }
 {
     let opener = person_id_by(tx, lab, giver, &version.opener)?;
     let id = insert_version(tx, kept, opener, version)?;
@@ -153,11 +146,9 @@ pub fn open_version<W: Writable>(
     wanted: Ordinal,
     version: &Version,
 ) -> Result<(), Error>
-    ensures { WritesTrying
-        (TriedFrom (Knows lab.id giver.entry) (TriesIn lab.id (VersionOpened wanted version.now)))
-        W.lender W.state
-        (MadeFrom (Knows lab.id giver.entry) (AppliesIn lab.id (VersionOpened wanted version.now)))
-        tx.old tx.new result }
+    ensures { WritesKnowing lab.id giver.entry (TriesIn lab.id (VersionOpened wanted version.now))
+        (AppliesIn lab.id (VersionOpened wanted version.now))
+        W.lender W.state tx.old tx.new result }
 {
     let kept = record_at(tx, lab, wanted)?;
     add_version(tx, lab, giver, kept, version)?;

@@ -2,6 +2,7 @@ use Rattle.std.proofs.lemmas.Result.{err_from_is_err_and}
 use Rattle.sqlite.specs.Held.{state}
 use Rattle.lab_move_write.proofs.Commits.{makes_weaker, nothing_made}
 use Rattle.lab_move_write.specs.Carrying.{Carries}
+use Rattle.lab_move_write.specs.Commits.{MakesAtOnce}
 use Rattle.lab_move.specs.Moving.{IsSoundLab}
 use Rattle.lab_move.proofs.OneLab.{errs_as, on_ok_so}
 use Rattle.std.proofs.Common.{inl}
@@ -12,8 +13,9 @@ pub returns-clause-placed : goal.returns-clause-placed
 returns-clause-placed g c =
     let was = (state g.T.Store c.args.new.now).now in
     let lab = c.args.lab.now in
+    let placed : IsSoundLab lab → MakesAtOnce (Carries lab was) c.place_tried.result (state g.T.Store c.args.new.now) (state g.T.Store c.place_tried.new.new) = rw c.lab.ensures.same at c.place_tried.ensures.placed in
     makes_weaker (Carries lab was) (λ db. IsSoundLab lab × Carries lab was db) c.place_tried.result (λ db it. (c.in_ok-test_lab.ensures.sound, it))
-    (c.place_tried.ensures.placed c.in_ok-test_lab.ensures.sound)
+    (placed c.in_ok-test_lab.ensures.sound)
 
 pub returns-clause-sound : goal.returns-clause-sound
 returns-clause-sound g c = on_ok_so c.place_tried.result c.in_ok-test_lab.ensures.sound
@@ -32,7 +34,8 @@ returns-in_err-test_lab-clause-fault g c =
     rw (failed.1, failed.2) c.in_err-test_lab.ensures.fault
 
 pub returns-clause-cause : goal.returns-clause-cause
-returns-clause-cause g c ours clean = unplaced_by g.T.Store c.args.new.now c.place_tried.new.new c.place_tried.result c.args.lab.now (c.place_tried.ensures.cause ours clean)
+returns-clause-cause g c ours clean = unplaced_by g.T.Store c.args.new.now c.place_tried.new.new c.place_tried.result c.args.lab.now
+    (rw c.lab.ensures.same at (c.place_tried.ensures.cause ours clean))
 
 pub returns-in_err-test_lab-clause-cause : goal.returns-in_err-test_lab-clause-cause
 returns-in_err-test_lab-clause-cause g c ours clean =

@@ -17,7 +17,7 @@ returns-in-Err-new-clause-ends g c = (
         (g.B.Read.remaining c.args.body.now) c.in-Ok.store Memory tt,
     record { honest = λ h. h; live = λ h l. l; refusing = λ m. m },
   ),
-  ap Some (c.new-2.ensures ∙ c.into_connection.ensures.same ∙ c.in-Err-new.ensures.unmade),
+  ap Some (c.new-in-Err-new.ensures ∙ c.into_connection.ensures.same ∙ c.in-Err-new.ensures.unmade),
 )
 
 pub returns-clause-ends : goal.returns-clause-ends
@@ -32,5 +32,5 @@ returns-clause-ends g c =
         c.found_over-ending.ensures.ends,
         c.found_over-ending.ensures.passes,
       ),
-      ap Some (c.new-3.ensures ∙ c.into_connection-left.ensures.same ∙ c.into_keeper.ensures),
+      ap Some (c.new-2.ensures ∙ c.into_connection-left.ensures.same ∙ c.into_keeper.ensures),
     )

@@ -7,7 +7,7 @@ returns-in-Some g c = (
   c.serve_file-ending.result.finished,
   c.serve_file-ending.ensures,
   shut_some _ c.serve_file-ending.result.finished
-      c.in-Some.finished c.in-Some.is c.close_uncut.ensures,
+      c.in-Some.finished c.in-Some.is (_, c.close_uncut.ensures),
 )
 
 pub returns-in_default : goal.returns-in_default

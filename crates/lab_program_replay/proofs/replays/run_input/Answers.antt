@@ -14,11 +14,8 @@ returns-in_err-store g c =
     let p = err_from_is_err_and c.from_residual.result c.from_residual.ensures.1 in
     rw p.1 (never_begun p.0 _ _ (subst IsBeginFault (sym p.2) c.in_err-store.ensures.fault))
 
-pub returns-in_err-desk : goal.returns-in_err-desk
-returns-in_err-desk g c =
-    let p = err_from_is_err_and c.from_residual-in_err-desk.result
-    c.from_residual-in_err-desk.ensures.1 in
-    rw (p.1, p.2) (never_begun Memory _ _ tt)
+pub returns-in_default : goal.returns-in_default
+returns-in_default g c = never_begun Memory _ _ tt
 
 pub returns-in_err-reader : goal.returns-in_err-reader
 returns-in_err-reader g c =
@@ -29,11 +26,11 @@ returns-in_err-reader g c =
 pub returns : goal.returns
 returns g c =
     let none = c.in_ok-store.ensures.nobody in
-    let same = c.in_ok-desk.ensures.keeper in
+    let same = c.in-Ok.ensures.keeper in
     let fresh = fresh_reader (λ limited. g.R.Read.remaining limited.reader) c.in_ok-reader.reader
     c.new-2.result
     c.in_ok-reader.ensures.inner c.in_ok-reader.ensures.empty c.in_ok-reader.ensures.capacity in
     let input = ap (λ limited. g.R.Read.remaining limited.reader) c.new-2.ensures in
     from_nobody _ _ _ _ _ _ _ (rw (sym same) at none) (fresh ∙ input)
-    (c.run_events.ensures.replayed (none_beyond (store_world over_memory c.in_ok-desk.desk.keeper) (rw (sym same) at none))
+    (c.run_events.ensures.replayed (none_beyond (store_world over_memory c.in-Ok.desk.keeper) (rw (sym same) at none))
     (memory_is_clean c.run_events.new.desk.keeper) (rw (sym same) at c.in_ok-store.ensures.reached))

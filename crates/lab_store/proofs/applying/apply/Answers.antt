@@ -70,8 +70,10 @@ returns-in-Err-clause-cause g c =
     (λ clean. it.reads.same clean (it.opened keeping.opened clean)) it.cause.limit c.in-Err.ensures.ends.clean (λ much. inr much)
     (TriesAll id changes) (TriesOf code changes)
     (λ ready clean t same tried at own.
-    let row = found_row _ c.in-Some.id (sym c.in-Some.is ∙ it.reads.answer ready clean (counted_now old c.args.counted.now keeping ready (it.reads.passes.clean clean) (it.opened keeping.opened clean))) in
-    (row.0, subst (λ (one : Tables). find (has_code code) one.labs ≡ Some row.0) (sym same) row.1,
-    subst (λ (lab : ℤ). TriesAll lab changes t tried at) (sym (row.2 ∙ sym (to_z-of_z w64 c.in-Some.id fits))) own))
+    let row = found_row _ c.in-Some.id (sym c.in-Some.is ∙ it.reads.answer ready clean (counted_now old c.args.counted.now keeping ready (it.reads.passes.clean clean) (it.opened keeping.opened clean))) in (
+      row.0,
+      subst (λ (one : Tables). find (has_code code) one.labs ≡ Some row.0) (sym same) row.1,
+      subst (λ (lab : ℤ). TriesAll lab changes t tried at) (sym (row.2 ∙ sym (to_z-of_z w64 c.in-Some.id fits))) own,
+    ))
     (λ t. HasFirst HasLab (labs_shown t code)) (Err c.read_fault.result)
     (told_as g.S.Store c.in-Err.error c.read_fault.result (λ told. isnt_memory c.in-Err.error (sym c.read_fault.ensures ∙ told)) c.in-Err.ensures.cause)

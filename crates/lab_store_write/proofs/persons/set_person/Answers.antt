@@ -28,8 +28,13 @@ returns-in_err-update_person g c =
     let asker = option_map row_id c.in_ok-asker.asker in
     let own = Only (setting_person lab c.in_ok-id.id.id asker c.args.person.now) in
     then_third_fails_by c.in_ok-id.ensures c.in_ok-asker.ensures {third = own} {more = TriedFrom (Knows c.args.lab.id c.args.giver) (TriesToSetPerson lab c.args.person.now)} c.in_err-update_person.ensures
-    (λ before mid late tried at one two it known. inr (inr (c.in_ok-id.id.id, one.0 known, asker,
-    subst (λ (t : Tables). Knows lab c.args.giver t → IsNamedIfAny t lab (asker_of c.args.person.now) asker) one.1 two.0 known, found_first own (two.1 ∙ one.1) it)))
+    (λ before mid late tried at one two it known. inr (inr (
+      c.in_ok-id.id.id,
+      one.0 known,
+      asker,
+      subst (λ (t : Tables). Knows lab c.args.giver t → IsNamedIfAny t lab (asker_of c.args.person.now) asker) one.1 two.0 known,
+      found_first own (two.1 ∙ one.1) it,
+    )))
     c.from_residual-in_err-update_person.result c.from_residual-in_err-update_person.ensures.1
 
 pub returns : goal.returns

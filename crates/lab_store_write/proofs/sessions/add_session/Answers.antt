@@ -28,8 +28,11 @@ returns-in_err-set_sessions g c =
     let session = c.args.session.now in
     let own = Only (counting_sessions c.args.lab.id session.number) in
     then_third_fails_by c.in_ok-person.ensures c.in_ok-insert_session.ensures {third = own} {more = TriedFrom (Knows c.args.lab.id c.args.giver) (TriesToAddSession c.args.lab.id c.args.session.now)} c.in_err-set_sessions.ensures
-    (λ before mid late tried at found made it known. inr (person, found.0 known,
-    inr (subst (λ (t : Tables). Over (counting_sessions c.args.lab.id session.number) t tried at) (made ∙ ap (with_session c.args.lab.id person session) found.1) it)))
+    (λ before mid late tried at found made it known. inr (
+      person,
+      found.0 known,
+      inr (subst (λ (t : Tables). Over (counting_sessions c.args.lab.id session.number) t tried at) (made ∙ ap (with_session c.args.lab.id person session) found.1) it),
+    ))
     c.from_residual-in_err-set_sessions.result c.from_residual-in_err-set_sessions.ensures.1
 
 pub returns : goal.returns

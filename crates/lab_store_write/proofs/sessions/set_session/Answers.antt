@@ -1,4 +1,4 @@
-use Rattle.std.proofs.Common.{◌≡◌, inl, inr, Err, refl, subst, arith}
+use Rattle.std.proofs.Common.{inl, inr, Err, refl, subst, arith}
 use Rattle.sqlite.specs.State.{HasCleanDisk}
 use Rattle.sqlite.specs.declared.error.Error.TheVariants.{QueryReturnedNoRows}
 use Rattle.lab_store_write.specs.Causes.{IsRun}

@@ -29,8 +29,11 @@ returns-in_err-set_trail g c =
     let told = c.args.told.now in
     let sent = counting_trail c.args.lab.id c.args.last told.number in
     then_third_fails_by c.in_ok-person.ensures c.in_ok-insert_told.ensures {third = Only sent} {more = TriedFrom (Knows c.args.lab.id c.args.giver) (TriesToAddTold c.args.lab.id c.args.last c.args.told.now)} c.in_err-set_trail.ensures
-    (λ before mid late tried at found made it known. inr (person, found.0 known,
-    inr (subst (λ (t : Tables). Over sent t tried at) (made ∙ ap (with_told c.args.lab.id person told) found.1) it)))
+    (λ before mid late tried at found made it known. inr (
+      person,
+      found.0 known,
+      inr (subst (λ (t : Tables). Over sent t tried at) (made ∙ ap (with_told c.args.lab.id person told) found.1) it),
+    ))
     c.from_residual-in_err-set_trail.result c.from_residual-in_err-set_trail.ensures.1
 
 pub returns : goal.returns

@@ -18,7 +18,6 @@ loop-change-init g c = (
   nothing_done c.args.tx.now,
   λ inside clean. inside,
   λ spared inside clean rules. none_known c.args.lab.id c.args.giver (g.W.Writable.state c.args.tx.now) inside,
-  λ inside clean typed. typed,
 )
 
 pub loop-change-preserved : goal.loop-change-preserved
@@ -37,7 +36,6 @@ loop-change-preserved g c =
           (inv.2 spared inside (early clean) rules)
           (subst (λ (one : Change). Steps (MadeFrom (Knows c.args.lab.id c.args.giver) (AppliesWhereKept c.args.lab.id one)) mid new) c.change-item.is
           (did.made (inv.1 inside (early clean)) clean)),
-      λ inside clean typed. ((did.made (inv.1 inside (early clean)) clean).made (inv.3 inside (early clean) typed)).0,
     )
 
 pub returns-in_err-change_rows-clause-failed : goal.returns-in_err-change_rows-clause-failed

@@ -1,7 +1,6 @@
 use Rattle.std.proofs.Common.{IsTrue, take}
 use Rattle.sqlite.specs.Effect.{IsDatabase}
 use Rattle.sqlite.specs.State.{HasCleanDisk}
-use Rattle.lab_store_tables.specs.Held.{IsTyped}
 use Rattle.lab_store_write.specs.Calls.{Stays, Steps}
 use Rattle.lab_store_write_changes.specs.Framed.{keeps_giver, StepsKnowing}
 use Rattle.lab_store_write_changes.proofs.changes.each_inside.Given as goal
@@ -15,4 +14,3 @@ invariant-loop-change g l =
     × (IsTrue old.in_transaction → HasCleanDisk now → IsTrue now.in_transaction)
     × (IsTrue (keeps_giver l.fn.giver l.changes) → IsTrue old.in_transaction → HasCleanDisk now → IsDatabase old.now
     → Steps (StepsKnowing l.fn.lab.id l.fn.giver (take l.change-index l.changes)) old now)
-    × (IsTrue old.in_transaction → HasCleanDisk now → IsTyped old.now → IsTyped now.now)

@@ -30,8 +30,11 @@ returns-in_err-insert_entry g c =
     let one = c.args.entry.now in
     let sent = λ (place : ℕ). adding_entry (entry_at version (pos 0) place person one) in
     then_third_fails_by c.in_ok-person.ensures c.in_ok-place.ensures.counts {third = Only (sent c.in_ok-place.place)} {more = TriedFrom (Knows c.args.lab.id c.args.giver) (TriesToAddEntry c.args.lab.id c.args.version.id c.args.entry.now)} c.in_err-insert_entry.ensures
-    (λ before mid late tried at found counted it known. inr (inr (person, found.0 known,
-    (it.0 ∙ ap sent (counted.0 ∙ ap (λ (t : Tables). length (filter (is_entry_of version) t.entries) + 1) found.1), it.1 ∙ counted.1 ∙ found.1))))
+    (λ before mid late tried at found counted it known. inr (inr (
+      person,
+      found.0 known,
+      (it.0 ∙ ap sent (counted.0 ∙ ap (λ (t : Tables). length (filter (is_entry_of version) t.entries) + 1) found.1), it.1 ∙ counted.1 ∙ found.1),
+    )))
     c.from_residual-in_err-insert_entry.result c.from_residual-in_err-insert_entry.ensures.1
 
 pub returns : goal.returns

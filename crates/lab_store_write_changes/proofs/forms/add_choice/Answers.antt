@@ -1,4 +1,4 @@
-use Rattle.std.proofs.Common.{inl, inr, pos, ℕ, ◌+◌, ap, ◌∙◌}
+use Rattle.std.proofs.Common.{inl, inr, pos, ℕ, ap, ◌∙◌}
 use Rattle.lab_store_write.specs.Tried.{Only}
 use Rattle.lab_store_write_changes.specs.FormsAdded.{choice_at}
 use Rattle.lab_store_write_changes.specs.Statements.{adding_choice}

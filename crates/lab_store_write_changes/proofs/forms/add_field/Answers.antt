@@ -1,4 +1,4 @@
-use Rattle.std.proofs.Common.{inl, inr, pos, ℕ, ℤ, ◌+◌, ap, subst, ◌∙◌}
+use Rattle.std.proofs.Common.{inl, inr, pos, ℕ, ℤ, ap, subst, ◌∙◌}
 use Rattle.sqlite_keyed.specs.Keyed.{next_key}
 use Rattle.lab_store_tables.specs.Rows.{Tables, field_id}
 use Rattle.lab_store_tables.specs.Columns.{kind_names}

@@ -44,8 +44,11 @@ returns-in_err-set_records g c =
     let form = c.in_ok-form.form.id in
     let sent = counting_records lab kept.number in
     then_third_fails_by c.in_ok-form.ensures c.in_ok-id.ensures {third = Only sent} {more = TriedFrom knows (TriesIn lab (RecordAdded kept))} c.in_err-set_records.ensures
-    (λ before mid late tried at found placed it known. inr (form, found.0,
-    inr (inl (subst (λ (t : Tables). Over sent t tried at) (placed.1 ∙ ap (with_record lab form kept) found.1) it))))
+    (λ before mid late tried at found placed it known. inr (
+      form,
+      found.0,
+      inr (inl (subst (λ (t : Tables). Over sent t tried at) (placed.1 ∙ ap (with_record lab form kept) found.1) it)),
+    ))
     c.from_residual-in_err-set_records.result c.from_residual-in_err-set_records.ensures.1
 
 pub returns-in_err-add_versions : goal.returns-in_err-add_versions
@@ -64,8 +67,12 @@ returns-in_err-add_versions g c =
     let put : counted ≡ with_counted lab form kept before =
     three.2 ∙ ap (in_lab lab (λ (one : LabRow). record one { records = kept.number })) (placed.1 ∙ ap (with_record lab form kept) found.1) in
     let below = subst (λ (versions : List Version). TriesToAddVersions lab id versions counted tried at) c.as_slice.ensures (it (known_still lab c.args.giver before counted (ap persons_of put) known)) in
-    inr (form, found.0, inr (inr (subst (λ (t : Tables). TriesToAddVersions lab next kept.versions t tried at) put
-    (subst (λ (i : ℤ). TriesToAddVersions lab i kept.versions counted tried at) is below)))))
+    inr (
+      form,
+      found.0,
+      inr (inr (subst (λ (t : Tables). TriesToAddVersions lab next kept.versions t tried at) put
+          (subst (λ (i : ℤ). TriesToAddVersions lab i kept.versions counted tried at) is below))),
+    ))
     c.from_residual-in_err-add_versions.result c.from_residual-in_err-add_versions.ensures.1
 
 pub returns : goal.returns

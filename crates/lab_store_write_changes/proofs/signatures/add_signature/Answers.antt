@@ -30,8 +30,11 @@ returns-in_err-insert_signature g c =
     let one = c.args.signature.now in
     let sent = λ (place : ℕ). adding_signature (signature_at version (pos 0) place person one) in
     then_third_fails_by c.in_ok-person.ensures c.in_ok-place.ensures.counts {third = Only (sent c.in_ok-place.place)} {more = TriedFrom (Knows c.args.lab.id c.args.giver) (TriesToAddSignature c.args.lab.id c.args.version.id c.args.signature.now)} c.in_err-insert_signature.ensures
-    (λ before mid late tried at found counted it known. inr (inr (person, found.0 known,
-    (it.0 ∙ ap sent (counted.0 ∙ ap (λ (t : Tables). length (filter (is_signature_of version) t.signatures) + 1) found.1), it.1 ∙ counted.1 ∙ found.1))))
+    (λ before mid late tried at found counted it known. inr (inr (
+      person,
+      found.0 known,
+      (it.0 ∙ ap sent (counted.0 ∙ ap (λ (t : Tables). length (filter (is_signature_of version) t.signatures) + 1) found.1), it.1 ∙ counted.1 ∙ found.1),
+    )))
     c.from_residual-in_err-insert_signature.result c.from_residual-in_err-insert_signature.ensures.1
 
 pub returns : goal.returns

@@ -52,8 +52,12 @@ returns-in_err-add_entries g c =
     let is : id ≡ next = placed.0 ∙ ap (λ (t : Tables). next_key version_id t.versions) found.1 in
     let put : late ≡ with_version kept opener version before = placed.1 ∙ ap (with_version kept opener version) found.1 in
     let below = subst (λ (rows : List Entry). TriesToAddEntries lab id rows late tried at) c.rows.ensures (it (known_still lab c.args.giver before late (ap persons_of put) known)) in
-    inr (opener, found.0 known, inr (inl (subst (λ (t : Tables). TriesToAddEntries lab next version.rows t tried at) put
-    (subst (λ (i : ℤ). TriesToAddEntries lab i version.rows late tried at) is below)))))
+    inr (
+      opener,
+      found.0 known,
+      inr (inl (subst (λ (t : Tables). TriesToAddEntries lab next version.rows t tried at) put
+          (subst (λ (i : ℤ). TriesToAddEntries lab i version.rows late tried at) is below))),
+    ))
     c.from_residual-in_err-add_entries.result c.from_residual-in_err-add_entries.ensures.1
 
 pub returns-in_err-add_signatures : goal.returns-in_err-add_signatures
@@ -75,9 +79,15 @@ returns-in_err-add_signatures g c =
     let rows = known_turns lab c.args.giver (AddsEntry lab id) (entry_leaves lab id) c.rows.result.now late entered three.2 (known_still lab c.args.giver before late (ap persons_of put) known) in
     let below = subst (λ (signatures : List Signature). TriesToAddSignatures lab id signatures entered tried at) c.as_slice.ensures (it rows.1) in
     let turns = subst (λ (list : List Entry). InTurn (AddsEntry lab id) list late entered) c.rows.ensures rows.0 in
-    inr (opener, found.0 known, inr (inr (entered,
-    subst (λ (t : Tables). InTurn (AddsEntry lab next) version.rows t entered) put (subst (λ (i : ℤ). InTurn (AddsEntry lab i) version.rows late entered) is turns),
-    subst (λ (i : ℤ). TriesToAddSignatures lab i version.signatures entered tried at) is below))))
+    inr (
+      opener,
+      found.0 known,
+      inr (inr (
+        entered,
+        subst (λ (t : Tables). InTurn (AddsEntry lab next) version.rows t entered) put (subst (λ (i : ℤ). InTurn (AddsEntry lab i) version.rows late entered) is turns),
+        subst (λ (i : ℤ). TriesToAddSignatures lab i version.signatures entered tried at) is below,
+      )),
+    ))
     c.from_residual-in_err-add_signatures.result c.from_residual-in_err-add_signatures.ensures.1
 
 pub returns : goal.returns

@@ -45,8 +45,15 @@ returns-in_err-set_current g c =
     (λ before mid opened tried at found added it known.
     let row = row_of_id (record_named before lab wanted) id found.0 in
     let made = subst (λ (t : Tables). AddsVersion lab id version t opened) found.1 (added (subst knows (sym found.1) known)) in
-    inr (row.0, row.1, inr (opened, subst (λ (i : ℤ). AddsVersion lab i version before opened) (sym row.2) made,
-    (it.0 ∙ ap (setting_current id) c.number.ensures ∙ ap (λ (i : ℤ). setting_current i version.origin.number) (sym row.2), it.1))))
+    inr (
+      row.0,
+      row.1,
+      inr (
+        opened,
+        subst (λ (i : ℤ). AddsVersion lab i version before opened) (sym row.2) made,
+        (it.0 ∙ ap (setting_current id) c.number.ensures ∙ ap (λ (i : ℤ). setting_current i version.origin.number) (sym row.2), it.1),
+      ),
+    ))
     c.from_residual-in_err-set_current.result c.from_residual-in_err-set_current.ensures.1
 
 pub returns : goal.returns
