@@ -9,11 +9,13 @@ use Rattle.lab_copy_rows.specs.declared.flaws.Flaw.{Flaw}
 use Rattle.lab_copy_rows.specs.declared.flaws.Flaw.TheVariants as flaw
 use Rattle.lab_copy_rows.specs.declared.lines.Counts.{Counts}
 use Rattle.lab_copy_rows.specs.declared.lines.Line.{Line}
-use Rattle.lab_copy.specs.Faults.{IsAnswer, IsNoFlaw}
-use Rattle.lab_copy.specs.Checks.{fault_at, most_rows, csv_rows_of}
+use Rattle.lab_copy.specs.Faults.{IsAnswer}
+use Rattle.lab_copy.specs.Private.Faults.{IsNoFlaw}
+use Rattle.lab_copy.specs.Private.Checks.{fault_at}
+use Rattle.lab_copy.specs.Checks.{most_rows, csv_rows_of}
 use Rattle.lab_copy_lines.specs.Lines.{IsRowRead, line_at}
 use Rattle.lab_copy.specs.Kept.{IsAt, IsTaken, edition_by, verdict_kept}
-use Rattle.lab_copy.specs.Left.{AnswersRest, AreRows, IsLeftOf}
+use Rattle.lab_copy.specs.Private.Left.{AnswersRest, AreRows, IsLeftOf}
 use Rattle.lab_copy.specs.declared.faults.CopyFault.{CopyFault}
 use Rattle.lab_copy.specs.declared.faults.CopyFault.TheVariants.{Flawed, Read, Memory}
 use Rattle.lab_forms_texts.specs.declared.refusals.Fault.{Fault}

@@ -18,9 +18,10 @@ use Rattle.lab_copy_rows.specs.declared.lines.Line.{Line}
 use Rattle.lab_copy_rows.proofs.ListLemmas.{never}
 use Rattle.lab_copy.specs.Checks.{most_rows, csv_rows_of}
 use Rattle.lab_copy.specs.Faults.{IsAnswer}
-use Rattle.lab_copy.specs.Fronts.{SoFar, after, done_by, front, is_too_long, mark_after, most_bytes, most_fields, row_begun, stepped, text_begun}
+use Rattle.lab_copy.specs.Fronts.{SoFar, after, done_by, front, is_too_long, mark_after, most_bytes, most_fields, row_begun, stepped}
+use Rattle.lab_copy.specs.Private.Fronts.{text_begun}
 use Rattle.lab_copy.proofs.FrontWords.{front_of}
-use Rattle.lab_copy.specs.Left.{IsEnough}
+use Rattle.lab_copy.specs.Private.Left.{IsEnough}
 use Rattle.lab_copy.specs.declared.faults.CopyFault.{CopyFault}
 use Rattle.lab_copy.proofs.LongLemmas.{HasLong, IsLong, no_header, no_line}
 use Rattle.lab_copy.proofs.ReadLemmas.{copy_step, field_step, inside_step, none_left, nothing_left, quote_step, record_step, return_step, shorter, some_left}

@@ -26,7 +26,8 @@ use Rattle.lab_copy_lines.specs.Fields.{HasReasonUnlessFirst}
 use Rattle.lab_copy_lines.specs.Lines.{IsReasoned}
 use Rattle.lab_copy.specs.Current.{hand_of, amendment_by, amendment_behind, begun, with_entry, with_signature, has_numbers, flaw_of_current}
 use Rattle.lab_copy_lines.specs.Kinds.{kind_of, may_come_after, is_end_kind}
-use Rattle.lab_copy.specs.Kept.{is_version_behind, has_kept_numbers, may_come, is_in_place_by, is_in_place_kept, flaw_of_signature_kept, flaw_of_version_kept, flaw_kept, copy_with, about_with, version_with, kept_with, verdict_kept, edition_by, first_copy, ends_in_version, hand_at, kept_none, kept_of, BeginsWithCopy, HasVersionRows, IsAt, IsKeepFault, IsTaken, MayBegin, MayRunOut, is_kept_made, is_text_made}
+use Rattle.lab_copy.specs.Private.Kept.{is_version_behind, has_kept_numbers, may_come, is_in_place_by, is_in_place_kept, flaw_of_signature_kept, flaw_kept, copy_with, about_with, version_with, kept_with, IsKeepFault, MayBegin, is_kept_made, is_text_made}
+use Rattle.lab_copy.specs.Kept.{flaw_of_version_kept, verdict_kept, edition_by, first_copy, ends_in_version, hand_at, kept_none, kept_of, BeginsWithCopy, HasVersionRows, IsAt, IsTaken, MayRunOut}
 use Rattle.lab_copy.proofs.KeptWords.{current_begun}
 use Rattle.lab_copy.specs.declared.faults.CopyFault.{CopyFault}
 use Rattle.lab_copy.specs.declared.faults.CopyFault.TheVariants.{Flawed, Read, Memory}

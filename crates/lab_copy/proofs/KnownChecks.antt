@@ -16,7 +16,8 @@ use Rattle.lab_copy_rows.specs.Copies.{last_told, verdict, verdict_after, flaw_o
 use Rattle.lab_copy_rows.specs.Reading.{line_of, copy_line, record_line, version_line, entry_line, signature_line, end_line}
 use Rattle.lab_copy_rows.specs.declared.flaws.Flaw.TheVariants.{BadRow, NoEnd, Digest}
 use Rattle.lab_forms_texts.specs.declared.refusals.Fault.TheVariants as row_fault
-use Rattle.lab_copy.specs.Checks.{fault_at, csv_rows_of}
+use Rattle.lab_copy.specs.Private.Checks.{fault_at}
+use Rattle.lab_copy.specs.Checks.{csv_rows_of}
 use Rattle.lab_copy.specs.declared.faults.CopyFault.TheVariants.{Flawed, Memory}
 use Rattle.lab_seal_versions.specs.declared.versions.Format.TheVariants as format
 use Rattle.lab_seal_versions.specs.declared.seals.Meaning.TheVariants.{Authorship}
@@ -25,7 +26,8 @@ use Rattle.lab_copy_rows.specs.declared.lines.Edition.TheVariants as edition
 use Rattle.lab_copy_rows.specs.declared.lines.Line.{Line}
 use Rattle.lab_copy_rows.specs.declared.lines.Line.TheVariants as line
 use Rattle.lab_copy_rows.specs.declared.lines.SignatureLine.{SignatureLine}
-use Rattle.lab_copy.specs.Kept.{flaw_of_signature_kept, is_in_place_kept, kept_none, kept_of, kept_with, verdict_kept}
+use Rattle.lab_copy.specs.Private.Kept.{flaw_of_signature_kept, is_in_place_kept, kept_with}
+use Rattle.lab_copy.specs.Kept.{kept_none, kept_of, verdict_kept}
 use Rattle.lab_copy.specs.declared.kept.Kept.{Kept}
 
 -- a byte order mark in front, lines that end in CR LF, LF, CR or with the text, an empty line, and quotes where none are needed

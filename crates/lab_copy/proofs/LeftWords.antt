@@ -7,7 +7,7 @@ use Rattle.lab_copy_rows.specs.declared.lines.Counts.{Counts}
 use Rattle.lab_copy_rows.specs.declared.lines.Line.{Line}
 use Rattle.lab_copy.specs.Kept.{IsAt, kept_none}
 use Rattle.lab_copy.specs.declared.kept.Kept.{Kept}
-use Rattle.lab_copy.specs.Left.{IsLeftOf}
+use Rattle.lab_copy.specs.Private.Left.{IsLeftOf}
 
 -- the loop's invariant: to check from this row on gives the verdict on the whole copy
 abbrev pub LeavesAt : State → Option (List ℕ) → Kept → ℕ → State → Option (List ℕ) → Type 0

@@ -20,7 +20,7 @@ use Rattle.lab_copy.specs.Faults.{IsAnswer}
 use Rattle.lab_copy.specs.Checks.{csv_rows_of}
 use Rattle.lab_copy_lines.specs.Lines.{line_at}
 use Rattle.lab_copy.specs.Kept.{IsAt, IsTaken, edition_by, kept_none, verdict_kept}
-use Rattle.lab_copy.specs.Left.{AreRows, IsEnough, IsLeftOf}
+use Rattle.lab_copy.specs.Private.Left.{AreRows, IsEnough, IsLeftOf}
 use Rattle.lab_copy.specs.declared.faults.CopyFault.{CopyFault}
 use Rattle.lab_copy.specs.declared.faults.CopyFault.TheVariants.{Flawed, Read, Memory}
 use Rattle.lab_copy.specs.declared.kept.Kept.{Kept}

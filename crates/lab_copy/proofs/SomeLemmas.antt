@@ -11,10 +11,12 @@ use Rattle.lab_copy_rows.specs.declared.flaws.Flaw.{Flaw}
 use Rattle.lab_copy_rows.specs.declared.flaws.Flaw.TheVariants as flaw
 use Rattle.lab_copy_rows.specs.declared.lines.Counts.{Counts}
 use Rattle.lab_copy_rows.specs.declared.lines.Line.{Line}
-use Rattle.lab_copy.specs.Checks.{OfVerdict, csv_rows_of, fault_at}
-use Rattle.lab_copy.specs.Faults.{IsAnswer, IsNoFlaw}
+use Rattle.lab_copy.specs.Checks.{OfVerdict, csv_rows_of}
+use Rattle.lab_copy.specs.Private.Checks.{fault_at}
+use Rattle.lab_copy.specs.Faults.{IsAnswer}
+use Rattle.lab_copy.specs.Private.Faults.{IsNoFlaw}
 use Rattle.lab_copy.specs.Kept.{IsAt, IsTaken, edition_by, kept_none, verdict_kept}
-use Rattle.lab_copy.specs.Left.{AnswersSome, AnswersSomeRest}
+use Rattle.lab_copy.specs.Private.Left.{AnswersSome, AnswersSomeRest}
 use Rattle.lab_copy.specs.declared.faults.CopyFault.{CopyFault}
 use Rattle.lab_copy.specs.declared.faults.CopyFault.TheVariants.{Flawed, Read, Memory}
 use Rattle.lab_copy.specs.declared.kept.Kept.{Kept}

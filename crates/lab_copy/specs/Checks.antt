@@ -3,15 +3,9 @@ use Rattle.std.specs.Prelude.{◌≡◌, ℕ, List, Option, Result, IfSome}
 use Rattle.csv.specs.Reading.{default_config, records, strip_bom}
 use Rattle.lab_copy_rows.specs.Copies.{verdict}
 use Rattle.lab_copy_rows.specs.declared.flaws.Flaw.{Flaw}
-use Rattle.lab_copy_rows.specs.declared.flaws.Flaw.TheVariants as flaw
 use Rattle.lab_copy_rows.specs.declared.lines.Counts.{Counts}
-use Rattle.lab_forms_texts.specs.declared.refusals.Fault.{Fault}
-use Rattle.lab_forms_texts.specs.declared.refusals.Fault.TheVariants as row_fault
-use Rattle.lab_copy_lines.specs.declared.faults.BadRow.{BadRow}
 use Rattle.lab_copy.specs.declared.asks.TheConstants.{MOST_ASKS}
 use Rattle.lab_copy.specs.declared.checks.TheConstants.{MOST_ROWS}
-use Rattle.lab_copy.specs.declared.faults.CopyFault.{CopyFault}
-use Rattle.lab_copy.specs.declared.faults.CopyFault.TheVariants.{Flawed, Memory}
 
 -- the rows of a text of CSV (RFC 4180), behind a byte order mark that it may begin with; the kit's
 -- reader defines them
@@ -31,8 +25,3 @@ most_rows = MOST_ROWS
 
 abbrev pub most_asks : ℕ
 most_asks = MOST_ASKS
-
--- the fault of a check whose row wasn't read
-abbrev pub fault_at : ℕ → Fault BadRow → CopyFault
-fault_at row (row_fault.Refused _) = Flawed (flaw.BadRow row)
-fault_at row row_fault.Memory = Memory (record {})

@@ -16,12 +16,6 @@ IsAnswer verdict (Err (Flawed flaw)) = verdict ≡ Err flaw
 IsAnswer verdict (Err Read) = Unit {0}
 IsAnswer verdict (Err (Memory _)) = Unit {0}
 
--- a fault that says nothing of the copy
-abbrev pub IsNoFlaw : CopyFault → Type 0
-IsNoFlaw (Flawed _) = ⊥
-IsNoFlaw Read = Unit {0}
-IsNoFlaw (Memory _) = Unit {0}
-
 -- the number and the word of a fault; no reply tells of a read fault, so it has no number
 abbrev pub fault_number : CopyFault → Option ℕ
 fault_number (Flawed flaw) = Some (flaw_entry flaw).number

@@ -28,10 +28,6 @@ pub record SoFar : Type 0 where
   pub fields : ℕ
   pub bytes : ℕ
 
--- a text and a row that have no byte yet
-abbrev pub text_begun : SoFar
-text_begun = record { mark = 0; state = st.StartRecord; fields = 0; bytes = 0 }
-
 abbrev pub row_begun : SoFar
 row_begun = record { mark = 3; state = st.StartRecord; fields = 0; bytes = 0 }
 

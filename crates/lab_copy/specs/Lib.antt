@@ -3,5 +3,5 @@ pub mod Faults
 pub mod Fronts
 pub mod Current
 pub mod Kept
-pub mod Left
 pub mod Places
+pub mod Private

@@ -5,10 +5,12 @@ ghost use Rattle.csv.specs.Records.{fields_of};
 ghost use Rattle.csv.specs.declared.parser.State.TheVariants as st;
 ghost use Rattle.csv.specs.declared.reader.Trim.TheVariants as trim;
 ghost use Rattle.lab_copy_rows.specs.Copies.{verdict};
-ghost use Rattle.lab_copy.specs.Faults.{IsAnswer, IsNoFlaw};
-ghost use Rattle.lab_copy.specs.Checks.{OfVerdict, fault_at, most_asks, most_rows, csv_rows_of};
+ghost use Rattle.lab_copy.specs.Faults.{IsAnswer};
+ghost use Rattle.lab_copy.specs.Private.Faults.{IsNoFlaw};
+ghost use Rattle.lab_copy.specs.Checks.{OfVerdict, most_asks, most_rows, csv_rows_of};
+ghost use Rattle.lab_copy.specs.Private.Checks.{fault_at};
 ghost use Rattle.lab_copy.specs.Kept.{kept_none};
-ghost use Rattle.lab_copy.specs.Left.{AnswersRest, AnswersSome, AnswersSomeRest, AreRows};
+ghost use Rattle.lab_copy.specs.Private.Left.{AnswersRest, AnswersSome, AnswersSomeRest, AreRows};
 
 use crate::CopyFault;
 use crate::asks::{AskedReader, Asking, MOST_ASKS};

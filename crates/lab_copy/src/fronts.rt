@@ -4,7 +4,8 @@ ghost use Rattle.csv.specs.Machine.{in_field, start_field, start_record, step};
 ghost use Rattle.csv.specs.Reading.{default_config};
 ghost use Rattle.csv.specs.declared.parser.Action.TheVariants as act;
 ghost use Rattle.csv.specs.declared.parser.State.TheVariants as st;
-ghost use Rattle.lab_copy.specs.Fronts.{after, front, is_too_long, mark_after, so_far, state_at, stepped, text_begun, row_begun};
+ghost use Rattle.lab_copy.specs.Fronts.{after, front, is_too_long, mark_after, so_far, state_at, stepped, row_begun};
+ghost use Rattle.lab_copy.specs.Private.Fronts.{text_begun};
 
 use lab_copy_lines::COLUMN_COUNT;
 use lab_forms_texts::NOTE_LIMIT;

@@ -7,7 +7,8 @@ ghost use Rattle.lab_copy_rows.specs.declared.lines.Line.{Line};
 ghost use Rattle.lab_copy.specs.Faults.{IsAnswer};
 ghost use Rattle.lab_copy_lines.specs.Lines.{IsReasoned};
 ghost use Rattle.lab_copy.specs.Current.{amendment_behind, begun, has_numbers, with_entry, with_signature};
-ghost use Rattle.lab_copy.specs.Kept.{IsAt, IsEndFault, IsKeepFault, IsTaken, MayBegin, edition_by, flaw_kept, flaw_of_signature_kept, flaw_of_version_kept, has_kept_numbers, is_in_place_kept, is_kept_made, is_next_record, is_text_made, is_version_behind, kept_none, kept_with, may_come, verdict_kept, with_parts};
+ghost use Rattle.lab_copy.specs.Kept.{IsAt, IsEndFault, IsTaken, edition_by, flaw_of_version_kept, kept_none, verdict_kept};
+ghost use Rattle.lab_copy.specs.Private.Kept.{IsKeepFault, MayBegin, flaw_kept, flaw_of_signature_kept, has_kept_numbers, is_in_place_kept, is_kept_made, is_next_record, is_text_made, is_version_behind, kept_with, may_come, with_parts};
 ghost use Rattle.lab_copy.specs.declared.current.CurrentVersion.{CurrentVersion};
 ghost use Rattle.lab_copy_lines.specs.Kinds.{is_end_kind};
 

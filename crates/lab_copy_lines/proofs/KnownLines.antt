@@ -13,7 +13,8 @@ use Rattle.lab_seal.specs.Reading.{number_written}
 use Rattle.lab_copy_rows.specs.Reading.{line_of, copy_line, record_line, version_line, entry_line, signature_line, end_line}
 use Rattle.lab_copy_rows.specs.declared.lines.Edition.TheVariants.{Two}
 use Rattle.lab_copy_rows.specs.declared.lines.Line.TheVariants as line
-use Rattle.lab_copy_lines.specs.Lines.{IsRowRead, field_in, line_at}
+use Rattle.lab_copy_lines.specs.Lines.{IsRowRead, line_at}
+use Rattle.lab_copy_lines.specs.Private.Lines.{field_in}
 use Rattle.lab_copy_lines.specs.Kinds.{is_end_kind, may_come_after}
 use Rattle.lab_forms_texts.specs.declared.refusals.Fault.TheVariants.{Refused}
 use Rattle.lab_copy_lines.specs.declared.kinds.LineKind.TheVariants.{Copy, Record, Version, Entry, Signature, End}

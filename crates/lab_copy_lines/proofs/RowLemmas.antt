@@ -9,7 +9,7 @@ use Rattle.lab_copy_rows.specs.Copies.{is_header}
 use Rattle.lab_copy_rows.specs.Reading.{columns_of}
 use Rattle.lab_copy_lines.specs.Fields.{columns_in}
 use Rattle.lab_copy_lines.specs.declared.columns.RowFields.{RowFields}
-use Rattle.lab_copy_lines.specs.Lines.{field_in, has_header_names}
+use Rattle.lab_copy_lines.specs.Private.Lines.{field_in, has_header_names}
 
 no_some : {A P : Type 0} (x : A) → None ≡ Some x → P
 no_some x e = let never : None ≡ Some x = e in absurd (cc)

@@ -1,5 +1,5 @@
 pub mod Fields
 pub mod Kinds
 pub mod Lines
-pub mod Parts
 pub mod VersionRowParts
+pub mod Private

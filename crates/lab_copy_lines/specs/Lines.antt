@@ -1,13 +1,10 @@
 -- How a row is read as a line: its fields, the header, and what it stands for in a copy; what each
 -- kind of row stands for is said in lab_copy_rows, `Reading.antt`.
-use Rattle.std.specs.Prelude.{◌≡◌, ℕ, Bool, List, [], Option, Some, None, IsSome, Result, Ok, Err, if◌then◌else◌, unwrap_or}
-use Rattle.std.specs.Str.{bytes_eq}
-use Rattle.std.specs.Cmp.Lexicographic.{pointwise}
-use Rattle.csv.specs.Records.{field_at}
-use Rattle.lab_seal.specs.Reading.{◌>>=◌}
-use Rattle.lab_copy_rows.specs.Rows.{Columns, fields_in, header_row}
+use Rattle.std.specs.Prelude.{◌≡◌, ℕ, List, Option, Some, None, IsSome, Result, Ok, Err, if◌then◌else◌}
+use Rattle.lab_copy_rows.specs.Rows.{Columns}
 use Rattle.lab_copy_rows.specs.Reading.{columns_of, line_of}
 use Rattle.lab_copy_rows.specs.Copies.{is_of_edition}
+use Rattle.lab_seal.specs.Reading.{◌>>=◌}
 use Rattle.lab_copy_rows.specs.declared.lines.Edition.{Edition}
 use Rattle.lab_copy_rows.specs.declared.lines.Line.{Line}
 use Rattle.lab_copy_rows.specs.declared.lines.Line.TheVariants.{Version}
@@ -22,14 +19,6 @@ abbrev pub IsRowRead : {A : Type 0} → Option A → Result A (Fault BadRow) →
 IsRowRead found (Ok value) = found ≡ Some value
 IsRowRead found (Err (Refused _)) = found ≡ None
 IsRowRead found (Err Memory) = IsSome found
-
--- a field, or nothing where there are fewer
-abbrev pub field_in : List (List ℕ) → ℕ → List ℕ
-field_in fields place = unwrap_or (field_at fields place) []
-
--- the columns have the names of the header
-abbrev pub has_header_names : Columns → Bool
-has_header_names row = pointwise bytes_eq (fields_in row) (fields_in header_row)
 
 abbrev pub IsReasoned : Line → Type 0
 IsReasoned (Version line) = HasReasonUnlessFirst line.number line.reason

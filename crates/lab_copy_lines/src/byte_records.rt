@@ -4,7 +4,7 @@ ghost use Rattle.csv.specs.Records.{fields_of};
 ghost use Rattle.lab_copy_rows.specs.Copies.{is_header};
 ghost use Rattle.lab_copy_rows.specs.Reading.{columns_of};
 ghost use Rattle.lab_copy_lines.specs.Fields.{columns_in};
-ghost use Rattle.lab_copy_lines.specs.Lines.{field_in, has_header_names};
+ghost use Rattle.lab_copy_lines.specs.Private.Lines.{field_in, has_header_names};
 
 use crate::RowFields;
 use csv::ByteRecord;

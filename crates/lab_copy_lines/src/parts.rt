@@ -3,7 +3,7 @@
 ghost use Rattle.std.specs.Prelude.{◌≡◌, IfSome, option_map};
 ghost use Rattle.lab_copy_rows.specs.Reading.{copy_line, record_line, end_line};
 ghost use Rattle.lab_copy_lines.specs.Fields.{columns_in};
-ghost use Rattle.lab_copy_lines.specs.Parts.{AreCopyTexts, AreEndTexts, AreRecordTexts, copy_of, end_of, record_of};
+ghost use Rattle.lab_copy_lines.specs.Private.Parts.{AreCopyTexts, AreEndTexts, AreRecordTexts, copy_of, end_of, record_of};
 
 use crate::{RowFields, fields};
 use lab_copy_rows::{Counts, Edition, Moment, Ordinal};

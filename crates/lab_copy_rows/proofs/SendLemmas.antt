@@ -11,7 +11,8 @@ use Rattle.csv.specs.Writing.{fields_written, has_written, row_text, text_writte
 use Rattle.csv.specs.declared.writer.Writer.{Writer}
 use Rattle.lab_copy_rows.specs.declared.lines.Counts.{Counts}
 use Rattle.lab_copy_rows.specs.declared.outs.CopyOut.{CopyOut}
-use Rattle.lab_copy_rows.specs.Outs.{AppendsFront, HasWritten, counted, counted_all}
+use Rattle.lab_copy_rows.specs.Outs.{AppendsFront, counted, counted_all}
+use Rattle.lab_copy_rows.specs.Private.Outs.{HasWritten}
 
 pub nothing_went : (old new : Option (List ℕ)) (bytes : List ℕ) → Keeps old new → AppendsFront old new bytes
 nothing_went old new bytes kept = record {

@@ -6,3 +6,4 @@ pub mod Outs
 pub mod Reading
 pub mod Rows
 pub mod Faults
+pub mod Private

@@ -1,10 +1,8 @@
 -- What of a copy goes out: the text of its rows as CSV (RFC 4180), or after a fault the front of
 -- it.
-use Rattle.std.specs.Prelude.{◌≡◌, ℕ, ◌+◌, ◌-◌, ◌^◌, min, Bool, false, if◌then◌else◌, List, [], ◌∷◌, ◌++◌, codes, Option, Some, Result, Ok, Err}
+use Rattle.std.specs.Prelude.{◌≡◌, ℕ, ◌+◌, ◌-◌, ◌^◌, min, Bool, if◌then◌else◌, List, [], ◌∷◌, ◌++◌, codes, Option, Result, Ok, Err}
 use Rattle.std.specs.Str.{bytes_eq}
 use Rattle.std.specs.Io.KnownBytes.{Appends}
-use Rattle.csv.specs.Writing.{default_writer, fields_written, has_written, text_written, writer_setup}
-use Rattle.csv.specs.declared.writer.Writer.{Writer}
 use Rattle.lab_copy_rows.specs.Csv.{csv_text}
 use Rattle.lab_copy_rows.specs.Rows.{fields_in, kind_in, header_row, copy_row}
 use Rattle.lab_copy_rows.specs.declared.lines.CopyLine.{CopyLine}
@@ -21,14 +19,6 @@ pub record AppendsFront (old new : Option (List ℕ)) (bytes : List ℕ) : Type 
 abbrev pub Sends : {A F : Type 0} → Option (List ℕ) → Option (List ℕ) → List ℕ → Result A F → Type 0
 Sends old new bytes (Ok _) = Appends old new bytes
 Sends old new bytes (Err _) = AppendsFront old new bytes
-
--- a writer of CSV, set up as by default, has written these bytes, by whole rows
-pub record HasWritten {W : Type 0} (contents : W → Option (List ℕ)) (writer : Writer W)
-    (bytes : List ℕ) : Type 0 where
-  pub setup : writer_setup writer ≡ default_writer
-  pub fields : fields_written writer ≡ 0
-  pub wrote : has_written writer ≡ false
-  pub text : text_written contents writer ≡ Some bytes
 
 -- the text with which a copy begins
 abbrev pub start_text : CopyLine → List ℕ

@@ -3,7 +3,8 @@ ghost use Rattle.std.specs.Prelude.{◌≡◌, ◌≤◌, ◌++◌, ℕ, List, [
 ghost use Rattle.std.specs.Io.KnownBytes.{Appends};
 ghost use Rattle.csv.specs.Records.{fields_of};
 ghost use Rattle.lab_copy_rows.specs.Csv.{csv_row, csv_text};
-ghost use Rattle.lab_copy_rows.specs.Outs.{HasWritten, Sends};
+ghost use Rattle.lab_copy_rows.specs.Private.Outs.{HasWritten};
+ghost use Rattle.lab_copy_rows.specs.Outs.{Sends};
 
 use crate::{CopyOutFault, CopyRow, OutOfMemory};
 use csv::{StringRecord, Writer, WriterBuilder};

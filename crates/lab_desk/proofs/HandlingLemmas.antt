@@ -19,7 +19,8 @@ use Rattle.lab_records_copy_out.specs.Legible.{IsLegibleChange}
 use Rattle.lab_desk_events.specs.Causes.{RefusesAsked}
 use Rattle.lab_desk_events.specs.Copies.{IsAskedLegibly}
 use Rattle.lab_desk_events.specs.Keeping.{AreWithin, GivenWithin, Stays}
-use Rattle.lab_desk_events.specs.Requests.{AskedInBytes, DoesStep, IsRefusedReply, TellsFault, answer_to, changes_for, is_idle}
+use Rattle.lab_desk_events.specs.Requests.{AskedInBytes, DoesStep, IsRefusedReply, answer_to, changes_for, is_idle}
+use Rattle.lab_desk_events.specs.Private.Requests.{TellsFault}
 use Rattle.lab_desk_events.proofs.Copying.{asked_legible, sound_answer}
 use Rattle.lab_desk_events.proofs.Keeping.{asked_keeps}
 use Rattle.lab_desk_events.proofs.Lasting.{still_stays}

@@ -4,3 +4,4 @@ pub mod Founding
 pub mod Handling
 pub mod Serving
 pub mod Twins
+pub mod Private

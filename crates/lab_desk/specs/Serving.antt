@@ -69,17 +69,6 @@ pub record Serves {S : Type 0} (keeper : Ghosts S) (old new : S) (exchange : Exc
 
 -- ---- what went out
 
--- before the reply: the interim answer, whole; where the reader failed that or nothing, and where
--- the writer failed its first bytes
-abbrev pub GreetsBy : List ℕ → Result (Unit {0}) ServeFault → Option (List ℕ) → Option (List ℕ) →
-    Type 0
-GreetsBy interim (Ok _) before after = Appends before after interim
-GreetsBy interim (Err Read) before after =
-    Appends before after interim ⊎ Appends before after []
-GreetsBy interim (Err (Interim sent)) before after =
-    Appends before after (take sent interim) × (sent < length interim)
-GreetsBy interim (Err (Reply sent)) before after = ⊥
-
 -- in all: the interim answer and then the reply, or its first bytes, where the writer failed within
 -- it
 abbrev pub WritesReply : List ℕ → List ℕ → Result (Unit {0}) ServeFault → Option (List ℕ) →

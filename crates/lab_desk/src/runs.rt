@@ -6,8 +6,10 @@ ghost use Rattle.std.specs.Io.KnownBytes.{Keeps};
 ghost use Rattle.lab_records_keeper.specs.Worlds.{Passes};
 ghost use Rattle.lab_desk_events.specs.Alone.{happening};
 ghost use Rattle.lab_desk_events.specs.Keeping.{GivenWithin, Stays, StaysOn};
-ghost use Rattle.lab_desk_events.specs.Leaving.{IsLiveToLast, LeavesByOne, LeavesRun};
-ghost use Rattle.lab_desk_events.specs.Runs.{IsRun, Runs, RunsCut, SendsAnswer};
+ghost use Rattle.lab_desk_events.specs.Leaving.{IsLiveToLast, LeavesRun};
+ghost use Rattle.lab_desk_events.specs.Private.Leaving.{LeavesByOne};
+ghost use Rattle.lab_desk_events.specs.Runs.{IsRun, Runs, RunsCut};
+ghost use Rattle.lab_desk_events.specs.Private.Runs.{SendsAnswer};
 ghost use Rattle.lab_desk_foundings.specs.RunFaults.{IfWrite, IfMemory};
 
 use crate::desk::Desk;

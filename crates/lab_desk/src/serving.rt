@@ -4,7 +4,8 @@
 ghost use Rattle.std.specs.Prelude.{◌≡◌, ◌≤◌, ◌+◌, IfSome, OnErr};
 ghost use Rattle.lab_wire_heads.specs.Interims.{interim_text};
 ghost use Rattle.lab_wire_heads.specs.Receiving.{most_asks};
-ghost use Rattle.lab_desk.specs.Serving.{OnUnhandled, GreetsBy, Serves, WritesReply};
+ghost use Rattle.lab_desk.specs.Serving.{OnUnhandled, Serves, WritesReply};
+ghost use Rattle.lab_desk.specs.Private.Serving.{GreetsBy};
 
 use crate::desk::Desk;
 use lab_desk_foundings::ServeFault;

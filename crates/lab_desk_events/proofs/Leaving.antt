@@ -28,7 +28,8 @@ use Rattle.lab_desk_events.specs.declared.events.Event.TheVariants.{Found, Call}
 use Rattle.lab_desk_events.specs.Requests.{AskedInBytes, Steps, changes_for, is_idle, is_idle_request, is_none}
 use Rattle.lab_desk_events.specs.Alone.{Happening, Founding, Request, happening, Founds, Obeys, own_call, own_of, alone_after}
 use Rattle.lab_desk_events.specs.Keeping.{AreReleasing, AreWithin, Stays}
-use Rattle.lab_desk_events.specs.Leaving.{AreTakenButLast, IsLeftBy, IsLiveToLast, LeavesByOne, LeavesRun, Settles, as_told}
+use Rattle.lab_desk_events.specs.Leaving.{AreTakenButLast, IsLeftBy, IsLiveToLast, LeavesRun, as_told}
+use Rattle.lab_desk_events.specs.Private.Leaving.{LeavesByOne, Settles}
 use Rattle.lab_desk_events.proofs.LeavingWords.{AreTaken}
 use Rattle.lab_desk_events.specs.Runs.{Handled, IsAccountOf, after_run, own_events}
 use Rattle.lab_desk_events.proofs.Running.{after_own_one, after_one, after_then, other_code, told_more}

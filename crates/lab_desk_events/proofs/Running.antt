@@ -28,13 +28,15 @@ use Rattle.lab_wire.specs.Replies.{reply_text, memory_text}
 use Rattle.lab_desk_events.specs.declared.events.Event.{Event}
 use Rattle.lab_desk_events.specs.declared.events.Event.TheVariants.{Found, Call}
 use Rattle.lab_desk_events.specs.Requests.{AskedInBytes, TakesRequest, RefusesRequest}
-use Rattle.lab_desk_foundings.specs.Foundings.{Bears, founding_in, born_of, after_birth, line_of, TakesFounding, RefusesFounding, memory_line, storage_line}
+use Rattle.lab_desk_foundings.specs.Foundings.{Bears, founding_in, born_of, after_birth, line_of, memory_line, storage_line}
+use Rattle.lab_desk_foundings.specs.Private.Foundings.{TakesFounding, RefusesFounding}
 use Rattle.lab_desk_events.specs.Keeping.{AreWithin, AreReleasing, Follows}
 use Rattle.lab_desk_foundings.proofs.Bearing.{born_seen}
 use Rattle.lab_desk_events.proofs.Keeping.{follows_itself, step_follows, birth_follows}
 use Rattle.lab_desk_events.proofs.Staying.{step_there, step_releasing, birth_releasing}
 use Rattle.lab_desk_events.specs.Alone.{Own, Happening, Founding, Request, happening, Founds, Obeys, own_call, after_own, answer_own, alone_after, alone_answers}
-use Rattle.lab_desk_events.specs.Runs.{Handled, IsRun, IsAccountOf, IsAnswer, IsAnswerBy, IsAnswerToNobody, AreAlone, KeepsAlong, own_in, own_events, own_answers, after_run, answers_of, SendsAnswer, Runs, RunsCut}
+use Rattle.lab_desk_events.specs.Runs.{Handled, IsRun, IsAccountOf, IsAnswer, IsAnswerBy, IsAnswerToNobody, AreAlone, KeepsAlong, own_in, own_events, own_answers, after_run, answers_of, Runs, RunsCut}
+use Rattle.lab_desk_events.specs.Private.Runs.{SendsAnswer}
 
 -- ---- runs join
 

@@ -3,7 +3,7 @@
 -- records to enable their accurate and ready retrieval throughout the records retention period").
 use Rattle.std.specs.Prelude.{◌≡◌, ◌⊎◌, ◌++◌, List, [], ◌∷◌, Bool, true, false}
 use Rattle.lab_records_kept.specs.Limits.{IsWithin}
-use Rattle.lab_records_keeper.specs.Worlds.{World, Meaning, IsDurable, Quiet, SameMeaning}
+use Rattle.lab_records_keeper.specs.Worlds.{World, Meaning, SameMeaning}
 use Rattle.lab_records_laws.specs.Runs.{IsReleasing}
 use Rattle.lab_desk_events.specs.Keeping.{AreReleasing, LeavesOnly}
 use Rattle.lab_desk_events.specs.Alone.{Happening}
@@ -31,20 +31,6 @@ IsLeftBy start before handled held =
     SameMeaning (after_run start handled) held
     ⊎ (IsFrontOfRun start handled held
     ⊎ (before held × SameMeaning start (after_run start handled)))
-
--- the same of one event
-abbrev pub LeavesByOne : World → World → Happening → Bool → Type 0
-LeavesByOne old new event taken = (held : Meaning) → new.may_leave held →
-    SameMeaning (after_run old.meaning (as_told event taken ∷ [])) held
-    ⊎ (((taken ≡ false) × SameMeaning (after_run old.meaning (as_told event true ∷ [])) held)
-    ⊎ (old.may_leave held
-    × SameMeaning old.meaning (after_run old.meaning (as_told event taken ∷ []))))
-
--- a founding that was taken has its rows on the disk, or left every laboratory, and no more than
--- before for a crash to leave
-abbrev pub Settles : World → World → Type 0
-Settles old new =
-    IsDurable new ⊎ (Quiet old new × (old.is_live → SameMeaning old.meaning new.meaning))
 
 abbrev pub AreTakenButLast : List Bool → Type 0
 AreTakenButLast [] = Unit {0}

@@ -6,3 +6,4 @@ pub mod Alone
 pub mod Runs
 pub mod Leaving
 pub mod Starts
+pub mod Private

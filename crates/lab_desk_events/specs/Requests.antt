@@ -5,7 +5,6 @@ use Rattle.lab_records_kept.specs.declared.changes.Change.{Change}
 use Rattle.lab_records_kept.specs.declared.labs.Lab.{Lab}
 use Rattle.lab_forms_texts.specs.declared.refusals.Fault.{Fault}
 use Rattle.lab_records_keeper.specs.declared.faults.BadStore.{BadStore}
-use Rattle.lab_forms_texts.specs.declared.refusals.Fault.TheVariants.{Refused as StoreRefused, Memory}
 use Rattle.lab_records_kept.specs.Changes.{ChangesFit, changed_in}
 use Rattle.lab_records_kept.specs.Parts.{part}
 use Rattle.lab_records_keeper.specs.Worlds.{World, Meaning, CommitsAs, IsDurable, SameMeaning, SetsOne, StaysSafe, Lives, Leaves}
@@ -87,11 +86,6 @@ pub record TakesRequest (old new : World) (tick : Tick) (asks : AskedInBytes)
 abbrev pub IsRefusedReply : Type 0 → Tick → List ℕ → Type 0
 IsRefusedReply may_refuse tick reply =
     (reply ≡ memory_text) ⊎ (may_refuse × (reply ≡ reply_text tick Storage))
-
--- a reply tells a keeper's fault; for lack of memory it may tell that in place of the store's
-abbrev pub TellsFault : Tick → List ℕ → Fault BadStore → Type 0
-TellsFault tick reply Memory = reply ≡ memory_text
-TellsFault tick reply (StoreRefused _) = (reply ≡ memory_text) ⊎ (reply ≡ reply_text tick Storage)
 
 -- a request that was refused: for memory, or by a store that may refuse, which was asked something;
 -- every laboratory means what it meant

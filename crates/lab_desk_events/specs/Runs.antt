@@ -1,10 +1,9 @@
 -- A run of an installation: which events were taken, what was answered, that each laboratory's
 -- answers and what it means are those of its run alone, and that it keeps what was at each event.
-use Rattle.std.specs.Prelude.{◌≡◌, ◌<◌, ◌++◌, ℕ, List, [], ◌∷◌, Bool, true, false, All, Option, None, Result, Ok, Err, IsOk, IfErr, filter_map, if◌then◌else◌, length, map, option_map, take}
+use Rattle.std.specs.Prelude.{◌≡◌, ◌<◌, ◌++◌, ℕ, List, [], ◌∷◌, Bool, true, false, All, Option, None, IsOk, IfErr, filter_map, if◌then◌else◌, length, map, option_map, take}
 use Rattle.std.specs.Io.KnownBytes.{Appends}
 use Rattle.std.specs.List.{concat}
 use Rattle.lab_forms_texts.specs.declared.tick.Tick.{Tick}
-use Rattle.lab_forms_streams.specs.declared.sending.WriteFault.{WriteFault}
 use Rattle.lab_records_kept.specs.Keeping.{Keeps}
 use Rattle.lab_records_keeper.specs.Worlds.{World, Meaning, HoldsMeaning}
 use Rattle.lab_wire.specs.declared.replies.Answer.TheVariants.{Refused}
@@ -98,13 +97,6 @@ pub record IsAccountOf (events : List Happening) (taken : List Bool) (handled : 
 -- the answers, one after the other
 abbrev pub answers_of : List Handled → List ℕ
 answers_of handled = concat (map (λ (one : Handled). one.answer) handled)
-
--- an answer went out whole, or its first bytes did and then the writer failed
-abbrev pub SendsAnswer : List ℕ → Result (Unit {0}) WriteFault → Option (List ℕ) → Option (List ℕ) →
-    Type 0
-SendsAnswer answer (Ok _) before after = Appends before after answer
-SendsAnswer answer (Err fault) before after = Appends before after (take fault.sent answer) ×
-    (fault.sent < length answer)
 
 -- all events were handled, and their answers were written, and nothing else
 pub record Runs (old new : World) (events : List Happening) (taken : List Bool)

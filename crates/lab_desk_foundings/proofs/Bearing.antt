@@ -17,7 +17,8 @@ use Rattle.lab_records_keeper.specs.Worlds.{World, SameMeaning, Places, Given, L
 use Rattle.lab_desk_foundings.specs.declared.faults.FoundFault.{FoundFault}
 use Rattle.lab_desk_foundings.specs.declared.faults.FoundFault.TheVariants.{Body as OfBody, Birth as OfBirth, Placing}
 use Rattle.lab_desk_foundings.specs.Faults.{FoundFaultFits, OnBody, OnKept, found_fault_entry, is_taken}
-use Rattle.lab_desk_foundings.specs.Foundings.{Body, Bears, BearsNone, IsNewborn, Founds, TakesFounding, after_birth, birth, born_of, founded_line, line_of, refused_line}
+use Rattle.lab_desk_foundings.specs.Foundings.{Body, Bears, BearsNone, IsNewborn, Founds, after_birth, birth, born_of, founded_line, line_of, refused_line}
+use Rattle.lab_desk_foundings.specs.Private.Foundings.{TakesFounding}
 
 -- a founding, by its two refusals
 abbrev born_by : Bool → Bool → Result Lab BirthRefusal → Result Lab BirthRefusal

@@ -10,7 +10,7 @@ use Rattle.lab_wire_bodies.specs.Bodies.{body_named}
 use Rattle.lab_wire_bodies.specs.Foundings.{founding_named}
 use Rattle.lab_records_kept.specs.declared.labs.Lab.{Lab}
 use Rattle.lab_records_keeper.specs.Faults.{storage_entry}
-use Rattle.lab_records_keeper.specs.Worlds.{World, Meaning, SetsOne, Places, Lives, Leaves}
+use Rattle.lab_records_keeper.specs.Worlds.{World, Meaning, SetsOne, Places}
 use Rattle.lab_records_machine.specs.declared.births.Founding.{Founding}
 use Rattle.lab_records_machine.specs.declared.births.BirthRefusal.{BirthRefusal}
 use Rattle.lab_records_machine.specs.Births.{birth_entry, born, founding_refusal, newborn}
@@ -112,21 +112,6 @@ abbrev pub shown : Option (List ℕ) → List ℕ
 shown None = memory_line
 shown (Some line) = line
 
--- a founding that was taken: its line is that of the laboratory's birth, or of the refusal that
--- comes first; and the keeper was there, where a laboratory is born from the body
-pub record TakesFounding (old new : World) (code : List ℕ) (tick : Tick) (body : Body)
-    (line : List ℕ) : Type 0 where
-  pub answered : line ≡ line_of code (born_of (old.meaning code) code tick body)
-  pub after : Births code tick body old.meaning new.meaning
-  pub lives : Bears code tick body → Lives old new
-
 -- a line tells that memory ran out, or that the store refused, where this may be
 abbrev pub IsRefusedLine : Type 0 → List ℕ → Type 0
 IsRefusedLine may_refuse line = (line ≡ memory_line) ⊎ (may_refuse × (line ≡ storage_line))
-
--- a founding that was refused: for memory, or by a store that may refuse, which was handed a
--- newborn; every laboratory means what it meant
-pub record RefusesFounding (old new : World) (code : List ℕ) (tick : Tick) (body : Body)
-    (line : List ℕ) : Type 0 where
-  pub answered : IsRefusedLine (old.may_refuse × Bears code tick body) line
-  pub same : Leaves old new

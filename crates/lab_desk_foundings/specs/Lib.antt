@@ -1,3 +1,4 @@
 pub mod Faults
 pub mod Foundings
 pub mod RunFaults
+pub mod Private

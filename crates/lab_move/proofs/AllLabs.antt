@@ -10,7 +10,8 @@ use Rattle.lab_move_write.specs.Commits.{MakesAtOnce}
 use Rattle.lab_move_write.specs.Unfinished.{Finishes}
 use Rattle.lab_move_read.specs.Laboratories.{codes_of}
 use Rattle.lab_move.specs.declared.faults.MoveFault.{MoveFault}
-use Rattle.lab_move.specs.Moving.{AreCounted, BlamesFirst, BlamesFirstOfAll, Fills, FillsAll, HasThese, IsFirstUnsound, IsSoundIn, IsWhole, IsWholeOf}
+use Rattle.lab_move.specs.Private.Moving.{AreCounted, BlamesFirst, BlamesFirstOfAll, FillsAll, IsWholeOf}
+use Rattle.lab_move.specs.Moving.{Fills, HasThese, IsFirstUnsound, IsSoundIn, IsWhole}
 use Rattle.lab_move.proofs.FilledFiles.{finished, whole_is}
 use Rattle.lab_move.proofs.OneLab.{errs_as}
 use Rattle.lab_move.proofs.Steps.{step_more, steps_as, steps_fail}

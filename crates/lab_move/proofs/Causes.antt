@@ -11,9 +11,11 @@ use Rattle.lab_move_tables.proofs.OldReaders.{stands_since}
 use Rattle.lab_move_read.specs.Laboratories.{codes_of}
 use Rattle.lab_move.specs.declared.faults.MoveFault.{MoveFault}
 use Rattle.lab_move.specs.declared.faults.MoveFault.TheVariants.{File, NotSound}
-use Rattle.lab_move.specs.Faults.{IsOfStore, is_early}
+use Rattle.lab_move.specs.Private.Faults.{IsOfStore}
+use Rattle.lab_move.specs.Faults.{is_early}
 use Rattle.lab_move.specs.OldFiles.{StandsFor}
-use Rattle.lab_move.specs.Moving.{AreCounted, BlamesFirstOfAll, HasCause, IsMoved, ReadsOldAs, IsWhole}
+use Rattle.lab_move.specs.Private.Moving.{AreCounted, BlamesFirstOfAll}
+use Rattle.lab_move.specs.Moving.{HasCause, IsMoved, ReadsOldAs, IsWhole}
 use Rattle.lab_move.proofs.Codes.{as_many}
 
 -- ---- the new file's tables

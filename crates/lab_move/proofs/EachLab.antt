@@ -12,7 +12,8 @@ use Rattle.lab_move_tables.proofs.OldReaders.{none_read, may_both, may_and, stan
 use Rattle.lab_move_write.specs.Commits.{MakesAtOnce}
 use Rattle.lab_move_write.proofs.Commits.{told_ok}
 use Rattle.lab_move.specs.declared.faults.MoveFault.{MoveFault}
-use Rattle.lab_move.specs.Moving.{Blames, CarriesFrom, Fills, HasThese, IsBegun, IsFirstUnsound, ReadsOldAs, IsSoundIn, IsUnsoundIn}
+use Rattle.lab_move.specs.Private.Moving.{Blames, CarriesFrom}
+use Rattle.lab_move.specs.Moving.{Fills, HasThese, IsBegun, IsFirstUnsound, ReadsOldAs, IsSoundIn, IsUnsoundIn}
 use Rattle.lab_move.proofs.FilledFiles.{none_carried, one_carried}
 use Rattle.lab_move.proofs.OneLab.{blames_as}
 use Rattle.lab_move.proofs.Steps.{no_step, step_more, steps_fail, steps_ok}

@@ -17,7 +17,8 @@ use Rattle.lab_move_write.specs.Commits.{MakesAtOnce}
 use Rattle.lab_move_write.specs.Unfinished.{Begins, IsBeingFilled}
 use Rattle.lab_move_write.proofs.Refusals.{unnamed_refused, blank_refused}
 use Rattle.lab_move.specs.OldFiles.{StandsFor}
-use Rattle.lab_move.specs.Moving.{IsBegun, FillsAll, IsNoInstallation, IsSoundLab, IsStart, IsWhole, Lasts, LeavesUnfinished}
+use Rattle.lab_move.specs.Moving.{IsBegun, IsNoInstallation, IsSoundLab, IsStart, IsWhole, Lasts, LeavesUnfinished}
+use Rattle.lab_move.specs.Private.Moving.{FillsAll}
 use Rattle.lab_move.proofs.FilledFiles.{all_weaker, carried_from}
 
 -- ---- refused by `open`

@@ -11,7 +11,8 @@ use Rattle.lab_move_tables.specs.Reading.{ReadsAs}
 use Rattle.lab_move_tables.proofs.OldReaders.{stands_since}
 use Rattle.lab_move_write.specs.Unfinished.{Finishes}
 use Rattle.lab_move_read.specs.Laboratories.{codes_of, IsLabOf}
-use Rattle.lab_move.specs.Moving.{IsSoundLab, AreAll, ReadsOldAs, IsBegun, HasCarried, HasThese, IsWholeOf, IsWhole, CarriesFrom, meaning_among}
+use Rattle.lab_move.specs.Moving.{IsSoundLab, AreAll, ReadsOldAs, IsBegun, HasCarried, HasThese, IsWhole, meaning_among}
+use Rattle.lab_move.specs.Private.Moving.{IsWholeOf, CarriesFrom}
 use Rattle.lab_move.proofs.Codes.{all_among, lab_means, among_more}
 use Rattle.lab_store_tables.proofs.Comparing.{text_is, text_alike}
 

@@ -34,7 +34,8 @@ use Rattle.lab_move_read.specs.Laboratories.{codes_of}
 use Rattle.lab_move.specs.declared.faults.MoveFault.TheVariants.{File, NotSound}
 use Rattle.lab_move.specs.Causes.{CountsDiffer, IsMoveCaused, IsMoveUnfinished, IsSchemaUnnamed, IsUnanswered, StopsAtEnd, StopsAtLab}
 use Rattle.lab_move.specs.Counting.{AreCounts, cell, counts_row, counts_text}
-use Rattle.lab_move.specs.Moving.{AreCounted, IsFirstUnsound, IsSoundIn, Lasts}
+use Rattle.lab_move.specs.Private.Moving.{AreCounted}
+use Rattle.lab_move.specs.Moving.{IsFirstUnsound, IsSoundIn, Lasts}
 use Rattle.lab_move.specs.OldFiles.{StandsFor}
 use Rattle.lab_move.specs.Owed.{AnswersOldOwed, MovesAsOwed, StopsAt}
 use Rattle.lab_move.proofs.EachLab.{HasMoved, none_moved}

@@ -26,7 +26,8 @@ use Rattle.lab_move_write.specs.Causes.{IsNamingRefused, NamingEndsForCause}
 use Rattle.lab_move.specs.declared.faults.MoveFault.{MoveFault}
 use Rattle.lab_move.specs.declared.faults.MoveFault.TheVariants.{File}
 use Rattle.lab_move.specs.Causes.{CountsDiffer, FailsToMatch, IsMoveUnfinished, IsUnanswered}
-use Rattle.lab_move.specs.Counting.{AreAlike, AreCounts, LacksNumber, ShowsNumber, cell, counted_tables, counts_row, counts_text}
+use Rattle.lab_move.specs.Counting.{AreAlike, AreCounts, cell, counted_tables, counts_row, counts_text}
+use Rattle.lab_move.specs.Private.Counting.{LacksNumber, ShowsNumber}
 use Rattle.lab_move.specs.Faults.{read_told}
 use Rattle.lab_move.proofs.Counts.{counts_known, counts_read, counts_taken}
 use Rattle.lab_move.proofs.StoreCauses.{unanswered_so}

@@ -13,8 +13,8 @@ use Rattle.lab_move_tables.proofs.OldReaders.{stands_since}
 use Rattle.lab_move_read.specs.Laboratories.{codes_of}
 use Rattle.lab_move.specs.declared.faults.MoveFault.{MoveFault}
 use Rattle.lab_move.specs.declared.faults.MoveFault.TheVariants.{File, NotSound}
-use Rattle.lab_move.specs.Faults.{IsOfStore}
-use Rattle.lab_move.specs.Moving.{AreCounted, BlamesFirstOfAll}
+use Rattle.lab_move.specs.Private.Faults.{IsOfStore}
+use Rattle.lab_move.specs.Private.Moving.{AreCounted, BlamesFirstOfAll}
 use Rattle.lab_move.specs.OldFiles.{StandsFor}
 use Rattle.lab_move.specs.Owed.{AnswersOldOwed, FailedInMove, IsMoveOwed, IsOfOlder, IsStoreFault, MayOpenOld, MovesAsOwed, OpensOld, StopsAt, StopsInAll, StopsInSome, has_tables}
 use Rattle.lab_move.proofs.OldOwed.{one_owed}

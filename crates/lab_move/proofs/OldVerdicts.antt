@@ -45,7 +45,8 @@ use Rattle.lab_move_tables.proofs.Bare.{shows_of}
 use Rattle.lab_move_tables.proofs.OldReaders.{passes_none}
 use Rattle.lab_move_tables.proofs.OldTexts.{MeansIn}
 use Rattle.lab_move_tables.proofs.OldExact.{answered}
-use Rattle.lab_move.specs.Faults.{read_told, IsOfStore}
+use Rattle.lab_move.specs.Faults.{read_told}
+use Rattle.lab_move.specs.Private.Faults.{IsOfStore}
 use Rattle.lab_move_tables.specs.Standing.{StandsBy}
 use Rattle.lab_move.specs.declared.old_tables.OldTable.{OldTable}
 use Rattle.lab_move.specs.declared.old_tables.OldTable.TheVariants.{Desk, Labs, Persons, Sessions, Forms, Fields, Choices, Records, Versions, Entries, Signatures, Trail}

@@ -16,7 +16,8 @@ use Rattle.lab_move_read_people.specs.declared.faults.KeptFault.TheVariants.{Not
 use Rattle.lab_move_read.specs.Laboratories.{IsLabOf, IsUnkept}
 use Rattle.lab_move.specs.declared.faults.MoveFault.{MoveFault}
 use Rattle.lab_move.specs.declared.faults.MoveFault.TheVariants.{File, NotSound}
-use Rattle.lab_move.specs.Moving.{Blames, CarriesFrom, ReadsOldAs, IsSoundIn, IsSoundLab, IsUnsoundIn}
+use Rattle.lab_move.specs.Private.Moving.{Blames, CarriesFrom}
+use Rattle.lab_move.specs.Moving.{ReadsOldAs, IsSoundIn, IsSoundLab, IsUnsoundIn}
 
 -- ---- faults
 

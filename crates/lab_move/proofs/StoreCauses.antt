@@ -24,7 +24,8 @@ use Rattle.lab_move.specs.declared.faults.MoveFault.{MoveFault}
 use Rattle.lab_move.specs.declared.faults.MoveFault.TheVariants.{File}
 use Rattle.lab_move.specs.Causes.{IsFillingRefused, IsMoveCaused, IsUnanswered, StopsAtEnd, StopsAtLab}
 use Rattle.lab_move.specs.Faults.{read_told}
-use Rattle.lab_move.specs.Moving.{FillsAll, IsBegun}
+use Rattle.lab_move.specs.Private.Moving.{FillsAll}
+use Rattle.lab_move.specs.Moving.{IsBegun}
 use Rattle.lab_move.specs.OldFiles.{Names}
 use Rattle.lab_move.proofs.CountedFiles.{begun_open}
 

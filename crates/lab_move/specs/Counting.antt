@@ -3,7 +3,7 @@
 -- information"): each table of the new file has as many rows as that of the old one, whoever wrote
 -- it and whatever its rows say. One question asks how many there are; what it shows of a file is
 -- what SQL means by it.
-use Rattle.std.specs.Prelude.{◌≡◌, ℕ, ℤ, ◌<◌, pos, min, codes, List, [], ◌∷◌, length, slice_get, option_and_then, Option, Some}
+use Rattle.std.specs.Prelude.{◌≡◌, ℕ, ◌<◌, pos, min, codes, List, [], ◌∷◌, length, slice_get, option_and_then, Option}
 use Rattle.sqlite_value.specs.declared.value.Value.{Value}
 use Rattle.sqlite_value.specs.declared.value.Value.TheVariants.{Int}
 use Rattle.sqlite_value.specs.Order.{Row}
@@ -24,14 +24,6 @@ counted_tables = TABLES
 -- what stands at a place of the first row
 abbrev pub cell : List Row → ℕ → Option Value
 cell rows at = option_and_then (λ row. slice_get row at) (slice_get rows 0)
-
--- an integer stands there
-abbrev pub ShowsNumber : List Row → ℕ → Type 0
-ShowsNumber rows at = (many : ℤ) × (cell rows at ≡ Some (Int many))
-
--- for one of the tables no integer stands in the first row
-abbrev pub LacksNumber : List Row → Type 0
-LacksNumber rows = (at : ℕ) × (at < counted_tables) × (¬ ShowsNumber rows at)
 
 -- ---- the numbers
 

@@ -1,6 +1,6 @@
 -- The number and the word of each fault of a move, and what the faults of the crates below are told
 -- as.
-use Rattle.std.specs.Prelude.{◌≡◌, ◌⊎◌, Bool, true, false, codes}
+use Rattle.std.specs.Prelude.{Bool, true, false, codes}
 use Rattle.lab_forms_texts.specs.Faults.{Entry}
 use Rattle.lab_forms_texts.specs.declared.refusals.Fault.{Fault}
 use Rattle.lab_forms_texts.specs.declared.refusals.Fault.TheVariants as read
@@ -19,10 +19,6 @@ move_fault_entry (NotSound _) = record { number = 66; word = codes "not_sound" }
 abbrev pub read_told : Fault BadStore → FileFault
 read_told (read.Refused _) = Storage
 read_told read.Memory = Memory
-
--- the store refused or memory ran out, which says nothing of the files
-abbrev pub IsOfStore : FileFault → Type 0
-IsOfStore fault = (fault ≡ Storage) ⊎ (fault ≡ Memory)
 
 -- it is known before anything is written: of the old file, or of the new one
 abbrev pub is_early : MoveFault → Bool

@@ -6,3 +6,4 @@ pub mod Moving
 pub mod Owed
 pub mod Openings
 pub mod Causes
+pub mod Private

@@ -13,8 +13,9 @@ ghost use Rattle.lab_store_write.specs.Transactions.{HasOurTables};
 ghost use Rattle.lab_move_tables.specs.Reading.{ReadsOld};
 ghost use Rattle.lab_store_read.specs.Causes.{IsCaused};
 ghost use Rattle.lab_move.specs.Causes.{CountsDiffer, FailsToMatch};
-ghost use Rattle.lab_move.specs.Counting.{AreAlike, AreCounts, HasAsMany, ShowsNumber, LacksNumber, cell, counts_text};
-ghost use Rattle.lab_move.specs.Faults.{IsOfStore};
+ghost use Rattle.lab_move.specs.Counting.{AreAlike, AreCounts, HasAsMany, cell, counts_text};
+ghost use Rattle.lab_move.specs.Private.Counting.{ShowsNumber, LacksNumber};
+ghost use Rattle.lab_move.specs.Private.Faults.{IsOfStore};
 
 use crate::faults::store_fault;
 use lab_store_files::FileFault;

@@ -11,7 +11,7 @@ ghost use Rattle.lab_store_files.specs.Verdicts.{integer_in, number_query, numbe
 ghost use Rattle.lab_move_tables.specs.Reading.{ReadsOld};
 ghost use Rattle.lab_move_tables.specs.declared.older.Older.{Older as AnyOlder};
 ghost use Rattle.lab_move.specs.Causes.{IsUnanswered};
-ghost use Rattle.lab_move.specs.Faults.{IsOfStore};
+ghost use Rattle.lab_move.specs.Private.Faults.{IsOfStore};
 ghost use Rattle.lab_move.specs.Openings.{ending_of, left_by};
 ghost use Rattle.lab_move.specs.OldFiles.{older_of, whole_verdict, other_verdict, named_verdict, old_verdict, OldAnswers, IsNamedOldFile};
 ghost use Rattle.lab_move.specs.Owed.{AnswersOldOwed, IsOldOwed};

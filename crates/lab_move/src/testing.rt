@@ -6,7 +6,8 @@ ghost use Rattle.lab_records_kept.specs.Dual.{IsDual};
 ghost use Rattle.lab_store_files.specs.declared.faults.FileFault.TheVariants.{Memory, Storage};
 ghost use Rattle.lab_records_kept.specs.Limits.{IsWithin};
 ghost use Rattle.lab_move.specs.declared.faults.MoveFault.TheVariants.{File, NotSound};
-ghost use Rattle.lab_move.specs.Moving.{Blames, IsSoundLab};
+ghost use Rattle.lab_move.specs.Private.Moving.{Blames};
+ghost use Rattle.lab_move.specs.Moving.{IsSoundLab};
 
 use crate::faults::MoveFault;
 use lab_forms_texts::LabCode;

@@ -18,9 +18,10 @@ use Rattle.lab_move_tables.specs.Shown.{form_shown, forms_shown, field_shown, fi
 use Rattle.lab_move_tables.specs.Checks.{are_rows_numbered}
 use Rattle.lab_store_read_forms.specs.declared.heads.FieldHead.{FieldHead}
 use Rattle.lab_store_read_forms.specs.declared.heads.FormHead.{FormHead}
-use Rattle.lab_store_read_forms.specs.Forms.{field_head, field_heads_of, field_by, form_head}
+use Rattle.lab_store_read_forms.specs.Private.Forms.{field_head, field_heads_of, field_by, form_head}
 use Rattle.lab_store_read_forms.specs.Shown.{field_read}
-use Rattle.lab_move_read.specs.Forms.{are_kept_places, is_kept_field_head, form_read, form_heads_of, form_at_by, is_kept_form_head, forms_run, form_at_in, forms_at_of, form_of}
+use Rattle.lab_move_read.specs.Private.Forms.{are_kept_places, is_kept_field_head, form_heads_of, form_at_by, is_kept_form_head, forms_run}
+use Rattle.lab_move_read.specs.Forms.{form_read, form_at_in, forms_at_of, form_of}
 use Rattle.lab_move_read_people.proofs.Found.{first_fails}
 use Rattle.lab_move_read_people.proofs.Numbered.{numbered_is, list_all-map}
 use Rattle.lab_move_tables.proofs.OldOnes.{IsOldForm, old_forms, all_same}

@@ -19,7 +19,8 @@ use Rattle.lab_move_tables.specs.OldSchema.{old_schema}
 use Rattle.lab_move_tables.specs.OldRows.{old_tables, IsOldFile}
 use Rattle.lab_move_tables.proofs.KnownOldFile.{lifted}
 use Rattle.lab_move_tables.proofs.OldTaken.{exact_takes}
-use Rattle.lab_move_read.specs.Readable.{IsReadable, HasLabCode, HasWhole}
+use Rattle.lab_move_read.proofs.ReadableLabs.{IsReadable}
+use Rattle.lab_move_read.specs.Readable.{HasLabCode, HasWhole}
 
 abbrev small : Tables
 small = record lifted {

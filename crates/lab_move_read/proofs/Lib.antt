@@ -1,6 +1,7 @@
 pub mod FormsFound
 pub mod KnownReadable
 pub mod KnownWholes
+pub mod ReadableLabs
 pub mod ReadableParts
 pub mod ReadableSaid
 pub mod RecordsFound

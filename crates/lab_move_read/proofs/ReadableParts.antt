@@ -8,7 +8,7 @@ use Rattle.lab_store_read_records.specs.declared.heads.RecordHead.{RecordHead}
 use Rattle.lab_store_read_records.specs.Shown.{record_head_of}
 use Rattle.lab_store_read_forms.specs.declared.heads.FieldHead.{FieldHead}
 use Rattle.lab_store_read_forms.specs.declared.heads.FormHead.{FormHead}
-use Rattle.lab_store_read_forms.specs.Forms.{field_heads_of}
+use Rattle.lab_store_read_forms.specs.Private.Forms.{field_heads_of}
 use Rattle.lab_store_read_forms.specs.Shown.{field_read}
 use Rattle.lab_move_tables.specs.declared.older.Older.{Older}
 use Rattle.lab_move_tables.specs.Standing.{AreLifted}
@@ -17,8 +17,10 @@ use Rattle.lab_move_read_people.specs.declared.faults.KeptFault.{KeptFault}
 use Rattle.lab_move_read_people.specs.declared.faults.KeptFault.TheVariants.{NotKept, Storage, Memory}
 use Rattle.lab_move_read_people.specs.Kept.{found_of}
 use Rattle.lab_move_read.specs.declared.heads.VersionHead.{VersionHead}
-use Rattle.lab_move_read.specs.Forms.{form_read, form_heads_of}
-use Rattle.lab_move_read.specs.Records.{version_read, version_heads_of, record_heads_of}
+use Rattle.lab_move_read.specs.Forms.{form_read}
+use Rattle.lab_move_read.specs.Private.Forms.{form_heads_of}
+use Rattle.lab_move_read.specs.Records.{version_read, record_heads_of}
+use Rattle.lab_move_read.specs.Private.Records.{version_heads_of}
 use Rattle.lab_move_read.specs.Readable.{HasFieldNames, HasFormParts, HasLeaf, HasRecordParts}
 use Rattle.lab_move_read.proofs.FormsFound.{field_rows_done, forms_found}
 use Rattle.lab_move_read.proofs.RecordsFound.{record_rows_done, versions_found}

@@ -34,7 +34,8 @@ use Rattle.lab_store_read_forms.specs.declared.heads.FormAt.{FormAt}
 use Rattle.lab_move_read.specs.declared.heads.VersionHead.{VersionHead}
 use Rattle.lab_move_read_people.specs.Kept.{are_counted}
 use Rattle.lab_move_read.specs.Forms.{form_of, form_at_in, forms_at_of, form_among}
-use Rattle.lab_move_read.specs.Records.{entry_read, signature_read, version_read, version_head, version_heads_of, leaf_by, is_kept_leaf, named_form, is_kept_record_head, record_by, record_heads_of, are_kept_records_by, records_by}
+use Rattle.lab_move_read.specs.Private.Records.{entry_read, signature_read, version_head, version_heads_of, leaf_by, is_kept_leaf}
+use Rattle.lab_move_read.specs.Records.{version_read, named_form, is_kept_record_head, record_by, record_heads_of, are_kept_records_by, records_by}
 use Rattle.lab_move_read.proofs.SaidRows.{entry_said, signature_said, version_said, counted_said, owned_said}
 use Rattle.lab_move_read_people.proofs.Numbered.{counted_is, owned_is, list_all-map}
 use Rattle.lab_move_tables.proofs.OldOnes.{IsOldVersion, old_versions, old_entries, old_signatures, all_same}

@@ -14,7 +14,8 @@ use Rattle.lab_move_tables.specs.Checks.{are_numbered_after, are_owned}
 use Rattle.lab_move_read_people.specs.Kept.{are_counted}
 use Rattle.lab_move_tables.specs.declared.older.Older.{Older}
 use Rattle.lab_move_tables.specs.declared.older.Older.TheVariants.{Two}
-use Rattle.lab_move_read.specs.Records.{entry_read, signature_read, format_in, version_read}
+use Rattle.lab_move_read.specs.Private.Records.{entry_read, signature_read}
+use Rattle.lab_move_read.specs.Records.{format_in, version_read}
 
 -- ---- a row
 

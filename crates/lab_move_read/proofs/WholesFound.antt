@@ -23,7 +23,8 @@ use Rattle.lab_move_read.proofs.RecordsFound.{records_are, records_kept}
 use Rattle.lab_move_read_people.specs.declared.faults.KeptFault.{KeptFault}
 use Rattle.lab_move_read_people.specs.declared.faults.KeptFault.TheVariants.{NotKept, Storage, Memory as NoMemory}
 use Rattle.lab_move_read_people.specs.Faults.{kept_fault}
-use Rattle.lab_move_read.specs.Laboratories.{head_of, are_kept_people, is_kept_head, lab_by, IsLabOfRow, IsLabOf, IsRowUnkept, IsUnkept}
+use Rattle.lab_move_read.specs.Laboratories.{head_of, IsLabOfRow, IsLabOf, IsRowUnkept, IsUnkept}
+use Rattle.lab_move_read.specs.Private.Laboratories.{are_kept_people, is_kept_head, lab_by}
 
 and_moved : (a b c : Bool) → (a && (b && c)) ≡ ((a && b) && c)
 and_moved true b c = refl

@@ -2,3 +2,4 @@ pub mod Forms
 pub mod Laboratories
 pub mod Records
 pub mod Readable
+pub mod Private

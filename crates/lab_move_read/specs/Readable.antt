@@ -31,7 +31,7 @@ use Rattle.lab_move_tables.specs.declared.older.Older.{Older}
 use Rattle.lab_move_read_people.specs.Readable.{HasFlag, HasReason, HasPersons, HasSessions, HasTrail}
 use Rattle.lab_move_read.specs.declared.heads.VersionHead.{VersionHead}
 use Rattle.lab_move_read.specs.Forms.{form_read}
-use Rattle.lab_move_read.specs.Laboratories.{codes_of, head_of}
+use Rattle.lab_move_read.specs.Laboratories.{head_of}
 use Rattle.lab_move_read.specs.Records.{version_read}
 
 -- ---- forms
@@ -197,8 +197,3 @@ pub record HasLabCode (row : Row) : Type 0 where
 pub record HasCodes (db : Database) (t : Tables) : Type 0 where
   pub taken : IsTaken db codes_text []
   pub rows : All HasLabCode (codes_shown t)
-
--- all laboratories of a file
-pub record IsReadable (older : Older) (db : Database) (t : Tables) : Type 0 where
-  pub listed : HasCodes db t
-  pub labs : All (λ code. HasWhole older code db t) (codes_of t)

@@ -2,49 +2,23 @@
 -- rows of their own put together, and whether the rows are well kept.
 use Rattle.std.specs.Prelude.{ℕ, ℤ, Bool, false, ◌&&◌, nat_le, List, [], map, Option, Some, None, option_and_then, unwrap_or, is_some, bytes_eq, if◌then◌else◌}
 use Rattle.std.specs.List.{list_all}
-use Rattle.std.specs.Ordering.{int_eq}
 use Rattle.sqlite_value.specs.Order.{Row, column, bytes}
 use Rattle.sqlite_rules.specs.Edit.{id_in}
-use Rattle.lab_seal_versions.specs.declared.rows.EntryRow.{EntryRow as Entry}
-use Rattle.lab_records_kept.specs.declared.records.Signature.{Signature}
 use Rattle.lab_records_kept.specs.declared.records.FormVersion.{FormVersion}
 use Rattle.lab_records_kept.specs.declared.records.Record.{Record}
-use Rattle.lab_store_tables.specs.Rows.{VersionRow, Tables, number_in}
-use Rattle.lab_store_tables.specs.Columns.{meaning_in}
-use Rattle.lab_store_tables.specs.Meaning.{Leaf, code_of, entries_of, signatures_of, leaves_of}
+use Rattle.lab_store_tables.specs.Rows.{Tables, number_in}
+use Rattle.lab_store_tables.specs.Meaning.{leaves_of}
 use Rattle.lab_store_read_records.specs.declared.heads.RecordHead.{RecordHead}
 use Rattle.lab_store_read_records.specs.Heads.{record_head}
 use Rattle.lab_store_read_forms.specs.Wholes.{record_with}
 use Rattle.lab_move_tables.specs.declared.older.Older.{Older}
 use Rattle.lab_move_tables.specs.declared.older.Older.TheVariants.{Two}
 use Rattle.lab_move_tables.specs.OldRows.{reason_in}
-use Rattle.lab_move_tables.specs.Owned.{own_records, own_versions, lab_of}
-use Rattle.lab_move_tables.specs.KeptLabs.{are_kept_entries, are_kept_signatures, are_kept_versions, are_so_many_records}
+use Rattle.lab_move_tables.specs.Owned.{own_records}
+use Rattle.lab_move_tables.specs.KeptLabs.{are_kept_versions, are_so_many_records}
 use Rattle.lab_store_read_forms.specs.declared.heads.FormAt.{FormAt}
 use Rattle.lab_move_read.specs.declared.heads.VersionHead.{VersionHead}
 use Rattle.lab_move_read.specs.Forms.{form_among}
-
--- ---- entries and signatures
-
-abbrev pub entry_read : Row → Entry
-entry_read row = record {
-  key = bytes (column row 0);
-  value = bytes (column row 1);
-  unit = bytes (column row 2);
-  person = bytes (column row 3);
-  moment = number_in (column row 4);
-  reason = reason_in (column row 5);
-}
-
-abbrev pub signature_read : Row → Signature
-signature_read row = record {
-  person = bytes (column row 0);
-  name = bytes (column row 1);
-  meaning = meaning_in (bytes (column row 2)) (reason_in (column row 3));
-  moment = number_in (column row 4);
-  digest = bytes (column row 5);
-  seal = bytes (column row 6);
-}
 
 -- ---- versions
 
@@ -62,36 +36,6 @@ version_read older row = record {
   reason = reason_in (column row 4);
   lab = id_in (column row 5);
 }
-
-abbrev pub version_head : Tables → VersionRow → VersionHead
-version_head t one = record {
-  id = one.id;
-  number = one.number;
-  format = one.format;
-  opener = code_of t one.opener;
-  opened = one.opened;
-  reason = one.reason;
-  lab = lab_of t one.opener;
-}
-
--- the version that has the row
-abbrev pub leaf_by : Tables → VersionHead → Leaf
-leaf_by t head = record {
-  number = head.number;
-  format = head.format;
-  opener = head.opener;
-  opened = head.opened;
-  reason = head.reason;
-  rows = entries_of t head.id;
-  signatures = signatures_of t head.id;
-}
-
-abbrev pub is_kept_leaf : Tables → ℤ → VersionHead → Bool
-is_kept_leaf t lab head =
-    int_eq head.lab lab && are_kept_entries t lab head.id && are_kept_signatures t lab head.id
-
-abbrev pub version_heads_of : Tables → ℤ → List VersionHead
-version_heads_of t kept = map (version_head t) (own_versions t kept)
 
 -- ---- records
 

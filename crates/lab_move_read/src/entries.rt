@@ -7,8 +7,9 @@ ghost use Rattle.lab_move_tables.specs.Checks.{are_owned};
 ghost use Rattle.lab_store_read.specs.Cells.{storage};
 ghost use Rattle.lab_move_read_people.specs.declared.faults.KeptFault.TheVariants.{Storage};
 ghost use Rattle.lab_move_read.specs.Readable.{AreEntries, HasEntries, HasOldEntry};
-ghost use Rattle.lab_move_read_people.specs.Kept.{IsTried, TriesOld, are_counted};
-ghost use Rattle.lab_move_read.specs.Records.{entry_read};
+ghost use Rattle.lab_move_read_people.specs.Private.Kept.{IsTried};
+ghost use Rattle.lab_move_read_people.specs.Kept.{TriesOld, are_counted};
+ghost use Rattle.lab_move_read.specs.Private.Records.{entry_read};
 
 use lab_move_read_people::KeptFault;
 use lab_move_read_people::cells::{are_counted, reason_of};

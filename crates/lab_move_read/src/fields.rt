@@ -4,7 +4,7 @@ ghost use Rattle.std.specs.Prelude.{◌≡◌, [], ◌∷◌, map, All, IfErr, I
 ghost use Rattle.sqlite_value.specs.declared.value.Value.TheVariants.{Int};
 ghost use Rattle.std.specs.List.{list_all};
 ghost use Rattle.lab_store_tables.specs.Meaning.{fields_of, names_of};
-ghost use Rattle.lab_store_read_forms.specs.Forms.{field_by, field_heads_of};
+ghost use Rattle.lab_store_read_forms.specs.Private.Forms.{field_by, field_heads_of};
 ghost use Rattle.lab_store_read_forms.specs.KindsShown.{name_read};
 ghost use Rattle.lab_store_read_forms.specs.Shown.{field_read};
 ghost use Rattle.lab_move_tables.specs.Checks.{are_rows_numbered};
@@ -15,8 +15,9 @@ ghost use Rattle.lab_move_tables.specs.Questions.{field_text};
 ghost use Rattle.lab_move_tables.specs.Shown.{fields_shown};
 ghost use Rattle.lab_move_read_people.specs.declared.faults.KeptFault.TheVariants.{Storage};
 ghost use Rattle.lab_move_read.specs.Readable.{AreFields, AreNames, HasFieldNames, HasFieldsOf, HasNamesOf, HasOldField};
-ghost use Rattle.lab_move_read_people.specs.Kept.{IsTried, TriesOld};
-ghost use Rattle.lab_move_read.specs.Forms.{are_kept_places, is_kept_field_head};
+ghost use Rattle.lab_move_read_people.specs.Private.Kept.{IsTried};
+ghost use Rattle.lab_move_read_people.specs.Kept.{TriesOld};
+ghost use Rattle.lab_move_read.specs.Private.Forms.{are_kept_places, is_kept_field_head};
 
 use lab_forms::Field;
 use lab_forms_texts::{Name, Series};

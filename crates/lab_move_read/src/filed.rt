@@ -15,7 +15,8 @@ ghost use Rattle.lab_move_tables.specs.Questions.{filed_text};
 ghost use Rattle.lab_move_tables.specs.Shown.{records_shown};
 ghost use Rattle.lab_move_read_people.specs.declared.faults.KeptFault.TheVariants.{Storage};
 ghost use Rattle.lab_move_read.specs.Readable.{AreRecords, HasRecordParts, HasRecords};
-ghost use Rattle.lab_move_read_people.specs.Kept.{IsTried, TriesBy, TriesOld, are_counted};
+ghost use Rattle.lab_move_read_people.specs.Private.Kept.{IsTried};
+ghost use Rattle.lab_move_read_people.specs.Kept.{TriesBy, TriesOld, are_counted};
 ghost use Rattle.lab_move_read.specs.Records.{is_kept_record_head, record_by, record_heads_of, are_kept_records_by, records_by};
 
 use crate::forms::named_form;

@@ -13,8 +13,10 @@ ghost use Rattle.lab_move_tables.specs.Shown.{forms_shown};
 ghost use Rattle.lab_move_read_people.specs.declared.faults.KeptFault.TheVariants.{Storage};
 ghost use Rattle.lab_move_read.specs.Readable.{HasFormParts, HasForms, HasOldForm};
 ghost use Rattle.lab_move_tables.specs.Reading.{ReadsByWhere};
-ghost use Rattle.lab_move_read_people.specs.Kept.{IsTried, TriesBy, TriesOld};
-ghost use Rattle.lab_move_read.specs.Forms.{form_read, form_heads_of, form_at_by, form_of, form_follows, forms_run, forms_at_of, is_kept_form_head};
+ghost use Rattle.lab_move_read_people.specs.Private.Kept.{IsTried};
+ghost use Rattle.lab_move_read_people.specs.Kept.{TriesBy, TriesOld};
+ghost use Rattle.lab_move_read.specs.Forms.{form_read, form_of, forms_at_of};
+ghost use Rattle.lab_move_read.specs.Private.Forms.{form_heads_of, form_at_by, form_follows, forms_run, is_kept_form_head};
 ghost use Rattle.lab_move_read.specs.Records.{named_form};
 
 use crate::fields::fields_at;

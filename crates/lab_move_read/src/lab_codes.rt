@@ -3,7 +3,8 @@
 ghost use Rattle.std.specs.Prelude.{◌≡◌, map, All, IfErr, IfOk};
 ghost use Rattle.lab_store_read.specs.Cells.{storage};
 ghost use Rattle.lab_move_tables.specs.Reading.{ReadsOldWhere};
-ghost use Rattle.lab_move_read.specs.Laboratories.{codes_of, code_read};
+ghost use Rattle.lab_move_read.specs.Laboratories.{codes_of};
+ghost use Rattle.lab_move_read.specs.Private.Laboratories.{code_read};
 ghost use Rattle.lab_move_read.specs.Readable.{HasCodes, HasLabCode};
 
 use lab_forms_texts::{LabCode, Series};

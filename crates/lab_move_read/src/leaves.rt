@@ -12,8 +12,10 @@ ghost use Rattle.lab_move_tables.specs.Questions.{version_text};
 ghost use Rattle.lab_move_tables.specs.Shown.{versions_shown};
 ghost use Rattle.lab_move_read_people.specs.declared.faults.KeptFault.TheVariants.{Storage};
 ghost use Rattle.lab_move_read.specs.Readable.{AreVersions, HasLeaf, HasOldVersion, HasVersions};
-ghost use Rattle.lab_move_read_people.specs.Kept.{IsTried, TriesBy, TriesOld, are_counted};
-ghost use Rattle.lab_move_read.specs.Records.{version_read, version_heads_of, leaf_by, is_kept_leaf};
+ghost use Rattle.lab_move_read_people.specs.Private.Kept.{IsTried};
+ghost use Rattle.lab_move_read_people.specs.Kept.{TriesBy, TriesOld, are_counted};
+ghost use Rattle.lab_move_read.specs.Records.{version_read};
+ghost use Rattle.lab_move_read.specs.Private.Records.{version_heads_of, leaf_by, is_kept_leaf};
 
 use crate::entries::entries_at;
 use crate::heads::VersionHead;

@@ -10,8 +10,9 @@ ghost use Rattle.lab_move_tables.specs.Checks.{are_owned};
 ghost use Rattle.lab_store_read.specs.Cells.{storage};
 ghost use Rattle.lab_move_read_people.specs.declared.faults.KeptFault.TheVariants.{Storage};
 ghost use Rattle.lab_move_read.specs.Readable.{AreSignatures, HasOldMeaning, HasOldSignature, HasSignatures, is_old_meaning};
-ghost use Rattle.lab_move_read_people.specs.Kept.{IsTried, TriesOld, are_counted};
-ghost use Rattle.lab_move_read.specs.Records.{signature_read};
+ghost use Rattle.lab_move_read_people.specs.Private.Kept.{IsTried};
+ghost use Rattle.lab_move_read_people.specs.Kept.{TriesOld, are_counted};
+ghost use Rattle.lab_move_read.specs.Private.Records.{signature_read};
 
 use lab_forms_texts::{Keys, Note, Series, Text};
 use lab_move_read_people::KeptFault;

@@ -9,7 +9,8 @@ ghost use Rattle.lab_move_tables.specs.Standing.{StandsBy};
 ghost use Rattle.lab_move_read_people.specs.Kept.{TriesBy};
 ghost use Rattle.lab_move_read_people.specs.declared.faults.KeptFault.TheVariants.{NotKept, Storage};
 ghost use Rattle.lab_move_read.specs.Readable.{HasHead, HasParts, HasPeople, HasWhole, HasWork};
-ghost use Rattle.lab_move_read.specs.Laboratories.{head_of, people_of, work_of, are_kept_people, is_kept_work, is_kept_head, lab_by, IsLabOf, IsUnkept};
+ghost use Rattle.lab_move_read.specs.Laboratories.{head_of, IsLabOf, IsUnkept};
+ghost use Rattle.lab_move_read.specs.Private.Laboratories.{people_of, work_of, are_kept_people, is_kept_work, is_kept_head, lab_by};
 
 use crate::{forms_alone, forms_at, records_at};
 use lab_forms_texts::{LabCode, Series};

@@ -14,7 +14,8 @@ use Rattle.lab_move_tables.proofs.Wheres.{where_and, where_both, where_end, wher
 use Rattle.lab_move_read_people.specs.declared.faults.KeptFault.{KeptFault}
 use Rattle.lab_move_read_people.specs.declared.faults.KeptFault.TheVariants.{NotKept, Storage, Memory}
 use Rattle.lab_move_read_people.specs.Faults.{kept_fault}
-use Rattle.lab_move_read_people.specs.Kept.{found_of, IsFound, IsTried, TriesWhere}
+use Rattle.lab_move_read_people.specs.Kept.{found_of, IsFound, TriesWhere}
+use Rattle.lab_move_read_people.specs.Private.Kept.{IsTried}
 
 pub both_pass : (a b : Bool) → a ≡ true → b ≡ true → (a && b) ≡ true
 both_pass a b h k = ap (λ c. c && b) h ∙ k

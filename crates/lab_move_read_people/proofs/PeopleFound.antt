@@ -9,11 +9,12 @@ use Rattle.lab_store_tables.specs.Columns.{password_in}
 use Rattle.lab_store_tables.specs.Meaning.{code_of, session_in, sessions_of, trail_of, persons_of}
 use Rattle.lab_store_read.proofs.Found.{flag_back, number_back, blob_back, id_back}
 use Rattle.lab_store_read_people.specs.declared.heads.PersonHead.{PersonHead}
-use Rattle.lab_store_read_people.specs.Heads.{ask_head, person_head, person_heads_of, person_by}
-use Rattle.lab_store_read_people.specs.SessionsShown.{session_read}
+use Rattle.lab_store_read_people.specs.Heads.{ask_head}
+use Rattle.lab_store_read_people.specs.Private.Heads.{person_head, person_heads_of, person_by}
+use Rattle.lab_store_read_people.specs.Private.SessionsShown.{session_read}
 use Rattle.lab_store_read_people.proofs.PersonsFound.{persons_built}
 use Rattle.lab_store_read_trail.specs.declared.heads.ToldHead.{ToldHead}
-use Rattle.lab_store_read_trail.specs.Trails.{told_head, told_by}
+use Rattle.lab_store_read_trail.specs.Private.Trails.{told_head, told_by}
 use Rattle.lab_store_read_trail.specs.Shown.{told_read}
 use Rattle.lab_move_tables.specs.OldRows.{beside, old_rounds}
 use Rattle.lab_move_tables.specs.declared.older.Older.{Older}
@@ -24,9 +25,10 @@ use Rattle.lab_move_tables.specs.KeptLabs.{run, is_theirs, is_nobody_or_theirs, 
 use Rattle.lab_move_tables.specs.Shown.{person_shown, persons_shown, owner_shown, owners_shown, session_shown, sessions_shown, told_shown, trail_shown}
 use Rattle.lab_move_tables.specs.Checks.{are_owned}
 use Rattle.lab_move_read_people.specs.Kept.{IsFound, are_counted}
-use Rattle.lab_move_read_people.specs.Owners.{IsFirstOwner}
-use Rattle.lab_move_read_people.specs.Persons.{password_cells, ask_cells, person_read, is_kept_ask, is_kept_head}
-use Rattle.lab_move_read_people.specs.Trails.{is_counted_trail, is_kept_told, told_heads_of}
+use Rattle.lab_move_read_people.specs.Private.Owners.{IsFirstOwner}
+use Rattle.lab_move_read_people.specs.Persons.{password_cells, ask_cells, person_read}
+use Rattle.lab_move_read_people.specs.Private.Persons.{is_kept_ask, is_kept_head}
+use Rattle.lab_move_read_people.specs.Private.Trails.{is_counted_trail, is_kept_told, told_heads_of}
 use Rattle.lab_move_read_people.proofs.Found.{first_fails}
 use Rattle.lab_move_read_people.proofs.Numbered.{counted_is, owned_is, list_all-map}
 use Rattle.lab_move_tables.proofs.OldOnes.{IsOldPerson, old_persons, all_same}

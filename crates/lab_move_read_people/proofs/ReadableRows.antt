@@ -4,7 +4,7 @@ use Rattle.std.proofs.lemmas.List.Elements.{All-map}
 use Rattle.sqlite.specs.Effect.{Database}
 use Rattle.lab_store_tables.specs.Rows.{Tables}
 use Rattle.lab_store_read_people.specs.declared.heads.PersonHead.{PersonHead}
-use Rattle.lab_store_read_people.specs.Heads.{person_heads_of}
+use Rattle.lab_store_read_people.specs.Private.Heads.{person_heads_of}
 use Rattle.lab_store_read_trail.specs.declared.heads.ToldHead.{ToldHead}
 use Rattle.lab_store_read_trail.specs.Shown.{told_read}
 use Rattle.lab_move_tables.specs.declared.older.Older.{Older}
@@ -12,7 +12,7 @@ use Rattle.lab_move_tables.specs.Standing.{AreLifted}
 use Rattle.lab_move_tables.specs.Shown.{persons_shown, trail_shown}
 use Rattle.lab_move_read_people.specs.Persons.{person_read}
 use Rattle.lab_move_read_people.specs.Readable.{HasAsker, HasDoer}
-use Rattle.lab_move_read_people.specs.Trails.{told_heads_of}
+use Rattle.lab_move_read_people.specs.Private.Trails.{told_heads_of}
 use Rattle.lab_move_read_people.proofs.PeopleFound.{persons_found, told_done}
 
 pub all_askers : (older : Older) (t : Tables) → AreLifted older t → (db : Database) (lab : ℤ) (heads : List PersonHead) → heads ≡ person_heads_of t lab

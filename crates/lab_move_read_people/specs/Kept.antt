@@ -1,6 +1,6 @@
 -- What is found of rows that are tried where they are read, and rows that are so many and numbered
 -- (21 CFR 11.10(a), "the ability to discern invalid or altered records").
-use Rattle.std.specs.Prelude.{◌≡◌, ℕ, Bool, true, false, ◌&&◌, ◌==◌, List, length, Option, Some, None, Result, Ok, Err, IfOk}
+use Rattle.std.specs.Prelude.{◌≡◌, ℕ, Bool, true, false, ◌&&◌, ◌==◌, List, length, Option, Some, None, Result, Ok, Err}
 use Rattle.sqlite_value.specs.Order.{Row}
 use Rattle.sqlite.specs.Effect.{Database}
 use Rattle.sqlite.specs.State.{State}
@@ -23,10 +23,6 @@ found_of (Err Memory) = Err Memory
 abbrev pub IsFound : {T : Type 0} → Bool → (T → Type 0) → Option T → Type 0
 IsFound is_kept Made (Some made) = (is_kept ≡ true) × Made made
 IsFound is_kept Made None = is_kept ≡ false
-
--- of rows that were read
-abbrev pub IsTried : {T : Type 0} → Bool → (T → Type 0) → Result T KeptFault → Type 0
-IsTried is_kept Made result = IfOk (found_of result) (IsFound is_kept Made)
 
 -- of rows that a file has, for whose tables it stands in this way, and which is readable so
 abbrev pub TriesWhere : (Database → Tables → Type 0) → (Database → Tables → Type 0) → {T : Type 0}

@@ -1,7 +1,6 @@
 pub mod Cells
 pub mod Faults
 pub mod Kept
-pub mod Owners
 pub mod Persons
 pub mod Readable
-pub mod Trails
+pub mod Private

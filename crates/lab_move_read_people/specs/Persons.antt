@@ -1,17 +1,15 @@
 -- What the row of a person is read as, by its schema; and whether whoever asked for something is of the
 -- laboratory.
-use Rattle.std.specs.Prelude.{ℕ, ℤ, Bool, Option, Some, option_map, option_and_then, unwrap_or}
+use Rattle.std.specs.Prelude.{ℕ, Option, Some, option_and_then}
 use Rattle.sqlite_value.specs.Order.{Row, column, bytes}
 use Rattle.sqlite_rules.specs.Edit.{id_in}
-use Rattle.lab_store_tables.specs.Rows.{PasswordColumns, AskColumns, Tables, number_in, flag_in, optional_in}
-use Rattle.lab_store_tables.specs.Columns.{roles_in, password_in, verifier_in}
-use Rattle.lab_store_read_people.specs.declared.heads.AskHead.{AskHead}
+use Rattle.lab_store_tables.specs.Rows.{PasswordColumns, AskColumns, number_in, flag_in, optional_in}
+use Rattle.lab_store_tables.specs.Columns.{roles_in, password_in}
 use Rattle.lab_store_read_people.specs.declared.heads.PersonHead.{PersonHead}
 use Rattle.lab_store_read_people.specs.Heads.{ask_head}
 use Rattle.lab_move_tables.specs.OldRows.{beside, old_rounds}
 use Rattle.lab_move_tables.specs.declared.older.Older.{Older}
 use Rattle.lab_move_tables.specs.declared.older.Older.TheVariants.{Two}
-use Rattle.lab_move_tables.specs.KeptLabs.{is_nobody_or_theirs}
 
 -- ---- what not every older schema shows
 
@@ -47,15 +45,6 @@ ask_cells older row = record {
   bytes = optional_in bytes (column row 16);
 }
 
--- what the asker asked for
-abbrev pub ask_by_row : Older → Row → ℤ → AskHead
-ask_by_row older row asker = record {
-  asker = asker;
-  asked = unwrap_or (optional_in number_in (column row 14)) 0;
-  first = verifier_in (optional_in bytes (column row 15)) (ask_rounds_in older row)
-      (optional_in bytes (column row 16));
-}
-
 abbrev pub person_read : Older → Row → PersonHead
 person_read older row = record {
   code = bytes (column row 0);
@@ -67,14 +56,3 @@ person_read older row = record {
   password = password_in (password_cells older row);
   ask = ask_head (ask_cells older row);
 }
-
--- ---- of the laboratory
-
-abbrev asker_of : AskHead → ℤ
-asker_of ask = ask.asker
-
-abbrev pub is_kept_ask : Tables → ℤ → Option AskHead → Bool
-is_kept_ask t lab ask = is_nobody_or_theirs t lab (option_map asker_of ask)
-
-abbrev pub is_kept_head : Tables → ℤ → PersonHead → Bool
-is_kept_head t lab head = is_kept_ask t lab head.ask

@@ -4,8 +4,9 @@ ghost use Rattle.std.specs.Prelude.{◌≡◌, option_map, slice_get, IfErr, IfO
 ghost use Rattle.sqlite_value.specs.Order.{column, bytes};
 ghost use Rattle.lab_store_tables.specs.Meaning.{code_of};
 ghost use Rattle.lab_move_tables.specs.KeptLabs.{is_theirs, is_nobody_or_theirs};
-ghost use Rattle.lab_move_read_people.specs.Kept.{found_of, IsTried, TriesOld};
-ghost use Rattle.lab_move_read_people.specs.Owners.{shows_lab, IsFirstOwner};
+ghost use Rattle.lab_move_read_people.specs.Kept.{found_of, TriesOld};
+ghost use Rattle.lab_move_read_people.specs.Private.Kept.{IsTried};
+ghost use Rattle.lab_move_read_people.specs.Private.Owners.{shows_lab, IsFirstOwner};
 ghost use Rattle.lab_move_read_people.specs.Readable.{HasFirstOwner, HasOwner, HasOwnerRow};
 ghost use Rattle.lab_move_read_people.specs.declared.faults.KeptFault.TheVariants.{Storage};
 

@@ -7,8 +7,9 @@ ghost use Rattle.lab_store_tables.specs.Rows.{number_in, optional_in};
 ghost use Rattle.lab_store_tables.specs.Columns.{verifier_in, password_in};
 ghost use Rattle.lab_store_read.specs.Cells.{storage};
 ghost use Rattle.lab_store_read_people.specs.Heads.{ask_head};
-ghost use Rattle.lab_move_read_people.specs.Cells.{are_null, has_no_password};
-ghost use Rattle.lab_move_read_people.specs.Persons.{password_cells, ask_cells, ask_by_row, ask_rounds_in};
+ghost use Rattle.lab_move_read_people.specs.Private.Cells.{are_null, has_no_password};
+ghost use Rattle.lab_move_read_people.specs.Persons.{password_cells, ask_cells, ask_rounds_in};
+ghost use Rattle.lab_move_read_people.specs.Private.Persons.{ask_by_row};
 ghost use Rattle.lab_move_read_people.specs.Readable.{HasCell, HasOldAsk, HasOldAsked, HasOldChosen, HasOldOneTime, HasOldPassword, HasOldVerifier, HasUnasked, HasUnset};
 
 use crate::cells::is_null;

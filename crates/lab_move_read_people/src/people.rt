@@ -4,7 +4,7 @@ ghost use Rattle.std.specs.Prelude.{◌≡◌, [], ◌∷◌, map, option_map, A
 ghost use Rattle.sqlite_value.specs.declared.value.Value.TheVariants.{Int};
 ghost use Rattle.std.specs.List.{list_all};
 ghost use Rattle.lab_store_tables.specs.Meaning.{persons_of};
-ghost use Rattle.lab_store_read_people.specs.Heads.{ask_by, person_by, person_heads_of};
+ghost use Rattle.lab_store_read_people.specs.Private.Heads.{ask_by, person_by, person_heads_of};
 ghost use Rattle.lab_move_tables.specs.KeptLabs.{are_kept_persons};
 ghost use Rattle.lab_store_read.specs.Cells.{storage};
 ghost use Rattle.lab_store_read_people.specs.declared.heads.AskHead.{AskHead as AnyAsk};
@@ -14,7 +14,8 @@ ghost use Rattle.lab_move_tables.specs.Reading.{ReadsByWhere};
 ghost use Rattle.lab_move_tables.specs.Shown.{persons_shown};
 ghost use Rattle.lab_move_read_people.specs.Kept.{TriesBy, TriesOld};
 ghost use Rattle.lab_move_read_people.specs.Readable.{HasAsker, HasOldPerson, HasOwner, HasPersons};
-ghost use Rattle.lab_move_read_people.specs.Persons.{person_read, is_kept_ask, is_kept_head};
+ghost use Rattle.lab_move_read_people.specs.Persons.{person_read};
+ghost use Rattle.lab_move_read_people.specs.Private.Persons.{is_kept_ask, is_kept_head};
 
 use crate::KeptFault;
 use crate::cells::{flag_of, roles_of};

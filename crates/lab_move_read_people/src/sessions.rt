@@ -2,9 +2,10 @@
 
 ghost use Rattle.std.specs.Prelude.{◌≡◌, ◌&&◌, map, All, IfErr, IfOk};
 ghost use Rattle.lab_store_tables.specs.Meaning.{sessions_of};
-ghost use Rattle.lab_store_read_people.specs.SessionsShown.{session_read};
+ghost use Rattle.lab_store_read_people.specs.Private.SessionsShown.{session_read};
 ghost use Rattle.lab_move_tables.specs.KeptLabs.{are_kept_sessions};
-ghost use Rattle.lab_move_read_people.specs.Kept.{IsTried, TriesOld, are_counted};
+ghost use Rattle.lab_move_read_people.specs.Private.Kept.{IsTried};
+ghost use Rattle.lab_move_read_people.specs.Kept.{TriesOld, are_counted};
 ghost use Rattle.lab_move_read_people.specs.Readable.{AreSessions, HasOldSession, HasSessions};
 ghost use Rattle.lab_move_read_people.specs.declared.faults.KeptFault.TheVariants.{Storage};
 ghost use Rattle.lab_move_tables.specs.Checks.{are_owned};

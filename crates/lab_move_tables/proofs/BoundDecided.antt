@@ -6,7 +6,7 @@ use Rattle.lab_records_kept.specs.declared.records.Signature.{Signature}
 use Rattle.lab_records_kept.specs.Digests.{digest_of, seal_for}
 use Rattle.lab_records_kept.specs.Bound.{IsBoundTo, IsSealed, IsBoundRecord}
 use Rattle.lab_move_tables.specs.Chained.{IsChained}
-use Rattle.lab_move_tables.specs.Tests.{is_bound_by, is_bound_record, is_sealed}
+use Rattle.lab_move_tables.specs.Private.Tests.{is_bound_by, is_bound_record, is_sealed}
 use Rattle.lab_move_tables.proofs.Decisions.{both, as_said, all_decided, texts_decided}
 
 bound_to_decided : (lab : List ℕ) (kept : Record) (version : Version) (signature : Signature) → Decides (is_bound_by lab (digest_of lab kept version) signature) (IsBoundTo lab kept version signature)

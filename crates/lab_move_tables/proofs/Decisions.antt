@@ -7,7 +7,7 @@ use Rattle.std.proofs.lemmas.Bool.Decides.{nat_tests}
 use Rattle.std.proofs.lemmas.List.Elements.{All-nil, All-cons, All-head, All-tail}
 use Rattle.std.proofs.lemmas.Slice.Eq.{bytes_eq-Decides}
 use Rattle.lab_records_kept.specs.Limits.{AreNumberedAfter}
-use Rattle.lab_move_tables.specs.Orders.{are_numbered_after}
+use Rattle.lab_move_tables.specs.Private.Orders.{are_numbered_after}
 
 pub both : {a b : Bool} {P Q : Type 0} → Decides a P → Decides b Q → Decides (a && b) (P × Q)
 both {a} {b} p q = (

@@ -18,7 +18,7 @@ use Rattle.lab_records_kept.specs.Values.{version_state, has_entered}
 use Rattle.lab_records_kept.specs.Bound.{IsBoundRecord, IsBound}
 use Rattle.lab_records_kept.specs.Dual.{EnteredNone, ThirdDiffers, AreSigners, SaysOfApproval, IsSignedDually, IsSettled, AreSettledButLast, IsDualRecord, IsDual}
 use Rattle.lab_move_tables.specs.Chained.{IsChained, AreChained}
-use Rattle.lab_move_tables.specs.Tests.{says_of_approval, entered_none, third_differs, are_signers, is_signed_dually, is_settled, are_settled_after, is_dual_record, is_sound_record}
+use Rattle.lab_move_tables.specs.Private.Tests.{says_of_approval, entered_none, third_differs, are_signers, is_signed_dually, is_settled, are_settled_after, is_dual_record, is_sound_record}
 use Rattle.lab_move_tables.proofs.Decisions.{both, as_said, all_decided, all_decided_where, not_decided, differs_decided}
 use Rattle.lab_move_tables.proofs.BoundDecided.{bound_decided}
 

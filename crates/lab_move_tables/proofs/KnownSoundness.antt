@@ -9,8 +9,8 @@ use Rattle.lab_records_kept.specs.declared.records.Record.{Record}
 use Rattle.lab_records_kept.specs.declared.records.Version.{Version}
 use Rattle.lab_records_kept.specs.declared.records.Signature.{Signature}
 use Rattle.lab_records_kept.proofs.KnownDefaults.{bare_entry, bare_form, bare_record, bare_signature, bare_version}
-use Rattle.lab_move_tables.specs.Tests.{says_of_approval, third_differs, are_settled_after, is_signed_dually}
-use Rattle.lab_move_tables.specs.Orders.{are_numbered}
+use Rattle.lab_move_tables.specs.Private.Tests.{says_of_approval, third_differs, are_settled_after, is_signed_dually}
+use Rattle.lab_move_tables.specs.Private.Orders.{are_numbered}
 
 abbrev signed : List ℕ → Meaning → Signature
 signed person meaning = record bare_signature { person = person; name = person; meaning = meaning; moment = 9 }

@@ -15,7 +15,8 @@ use Rattle.lab_store_read.proofs.Readers.{unchanged_none, unchanged_then}
 use Rattle.lab_move_tables.specs.declared.older.Older.{Older}
 use Rattle.lab_move_tables.specs.Showing.{ShowsOf}
 use Rattle.lab_move_tables.specs.Standing.{StandsBy, StandsBySome}
-use Rattle.lab_move_tables.specs.Reading.{PassesOver, ReadsAs, ReadsOld, ReadsBy}
+use Rattle.lab_move_tables.specs.Reading.{PassesOver, ReadsAs, ReadsOld}
+use Rattle.lab_move_tables.specs.Private.Reading.{ReadsBy}
 use Rattle.lab_move_tables.proofs.Bare.{passes, shows_of}
 
 on_ok : {A E P : Type 0} (r : Result A E) → P → OnOk r P

@@ -15,8 +15,8 @@ use Rattle.lab_records_kept.specs.declared.trails.TrailRow.{TrailRow}
 use Rattle.lab_records_kept.specs.declared.labs.Lab.{Lab}
 use Rattle.lab_records_kept.specs.Lookups.{comes_before, exact_form, is_form_version, last_form, next_form_version}
 use Rattle.lab_records_kept.specs.Limits.{form_version_limit, record_limit, version_limit, row_limit, count_limit, stray_limit, HasFewRows, IsOrderly, IsSmallForm, AreFormsNumbered, AreInOrder, AreFormsInOrder, IsByForm, IsWithin}
-use Rattle.lab_move_tables.specs.Orders.{are_in_order_after, are_forms_in_order_after, follows, are_forms_numbered}
-use Rattle.lab_move_tables.specs.Within.{is_small_form, has_few_rows, is_orderly, is_by_form, are_few, is_kept_within}
+use Rattle.lab_move_tables.specs.Private.Orders.{are_in_order_after, are_forms_in_order_after, follows, are_forms_numbered}
+use Rattle.lab_move_tables.specs.Private.Within.{is_small_form, has_few_rows, is_orderly, is_by_form, are_few, is_kept_within}
 use Rattle.lab_move_tables.proofs.Decisions.{both, as_said, all_decided, texts_decided, not_decided, at_most_decided, equal_decided, numbered_decided}
 
 -- ---- orders

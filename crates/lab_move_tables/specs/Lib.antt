@@ -5,7 +5,6 @@ pub mod OldRows
 pub mod OldSchema
 pub mod OldSheets
 pub mod Olders
-pub mod Orders
 pub mod Owned
 pub mod PeerFiles
 pub mod Questions
@@ -14,5 +13,4 @@ pub mod Reading
 pub mod Showing
 pub mod Shown
 pub mod Standing
-pub mod Tests
-pub mod Within
+pub mod Private

@@ -38,11 +38,6 @@ pub record ReadsAs (Stands : Database → Tables → Type 0) {T E : Type 0} (Ans
 abbrev pub ReadsOld : {T E : Type 0} → (Tables → T → Type 0) → State → State → Result T E → Type 0
 ReadsOld Answer old new result = ReadsAs StandsBySome Answer old new result
 
--- of a file of this one
-abbrev pub ReadsBy : Older → {T E : Type 0} → (Tables → T → Type 0) → State → State → Result T E
-    → Type 0
-ReadsBy older Answer old new result = ReadsAs (StandsBy older) Answer old new result
-
 -- ---- why it returns the fault of the store
 
 -- a call that reads returns the fault of the store for no cause but a fault of the disk in the call, a

@@ -4,7 +4,7 @@ ghost use Rattle.std.specs.Prelude.{◌≡◌, ◌<◌, ℕ, List, length, Some,
 ghost use Rattle.std.specs.List.{list_all};
 ghost use Rattle.lab_records_kept.specs.Digests.{digest_of, sealed_parts};
 ghost use Rattle.lab_move_tables.specs.Chained.{IsChained};
-ghost use Rattle.lab_move_tables.specs.Tests.{is_bound_by, is_bound_record};
+ghost use Rattle.lab_move_tables.specs.Private.Tests.{is_bound_by, is_bound_record};
 
 use lab_forms_texts::{LabCode, OutOfMemory};
 use lab_records_kept::{Record, SealParts, Signature, Version};

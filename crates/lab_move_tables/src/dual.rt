@@ -2,7 +2,7 @@
 
 ghost use Rattle.std.specs.Prelude.{◌≡◌, true};
 ghost use Rattle.std.specs.List.{list_all};
-ghost use Rattle.lab_move_tables.specs.Tests.{says_of_approval, entered_none, third_differs, are_signers, is_signed_dually, is_settled, are_settled_after, is_dual_record};
+ghost use Rattle.lab_move_tables.specs.Private.Tests.{says_of_approval, entered_none, third_differs, are_signers, is_signed_dually, is_settled, are_settled_after, is_dual_record};
 
 use lab_records_kept::{Record, Signature, State, Version};
 use lab_seal_versions::Format;

@@ -4,7 +4,7 @@ ghost use Rattle.std.specs.Prelude.{◌≡◌, ◌↔◌, IsTrue, option_copied}
 ghost use Rattle.std.specs.List.{list_all};
 ghost use Rattle.lab_records_kept.specs.Limits.{IsWithin};
 ghost use Rattle.lab_records_kept.specs.Lookups.{exact_form};
-ghost use Rattle.lab_move_tables.specs.Within.{is_small_form, has_few_rows, is_orderly, is_by_form, are_few, are_forms_kept, are_ordered, is_kept_within};
+ghost use Rattle.lab_move_tables.specs.Private.Within.{is_small_form, has_few_rows, is_orderly, is_by_form, are_few, are_forms_kept, are_ordered, is_kept_within};
 
 use crate::orders::{
     are_forms_in_order, are_forms_numbered, are_in_order, are_records_numbered,

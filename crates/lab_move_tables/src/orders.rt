@@ -2,7 +2,7 @@
 
 ghost use Rattle.std.specs.Prelude.{◌≡◌, None, [], option_copied};
 ghost use Rattle.lab_records_kept.specs.Lookups.{comes_before, last_form};
-ghost use Rattle.lab_move_tables.specs.Orders.{are_numbered, are_in_order_after, are_forms_in_order_after, follows, are_forms_numbered};
+ghost use Rattle.lab_move_tables.specs.Private.Orders.{are_numbered, are_in_order_after, are_forms_in_order_after, follows, are_forms_numbered};
 
 use lab_forms_texts::{Key, Text, TextRule};
 use lab_people_access::{Person, Session};

@@ -5,7 +5,7 @@ ghost use Rattle.std.specs.List.{list_all};
 ghost use Rattle.lab_records_kept.specs.Bound.{IsBound};
 ghost use Rattle.lab_records_kept.specs.Dual.{IsDual};
 ghost use Rattle.lab_move_tables.specs.Chained.{IsChained};
-ghost use Rattle.lab_move_tables.specs.Tests.{is_sound_record};
+ghost use Rattle.lab_move_tables.specs.Private.Tests.{is_sound_record};
 
 use crate::bound::is_bound_record;
 use crate::chained::ChainedLab;

@@ -20,7 +20,8 @@ use Rattle.lab_store_files.specs.declared.faults.FileFault.{FileFault}
 use Rattle.lab_store_files.specs.declared.faults.FileFault.TheVariants.{Storage}
 use Rattle.lab_store_files.specs.Faults as files
 use Rattle.lab_store_files.specs.NewFiles.{IsBlank}
-use Rattle.lab_move_write.specs.Causes.{EndsMaking, FailsMaking, MakingEndsForCause, NamingEndsForCause}
+use Rattle.lab_move_write.specs.Causes.{EndsMaking, MakingEndsForCause, NamingEndsForCause}
+use Rattle.lab_move_write.specs.Private.Causes.{FailsMaking}
 use Rattle.lab_move_write.specs.Namings.{naming_text}
 
 -- ---- what is told of an error

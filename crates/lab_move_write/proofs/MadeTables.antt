@@ -29,9 +29,11 @@ use Rattle.lab_store_write.specs.Calls.{Stays}
 use Rattle.lab_store_write.proofs.Failing.{unmoved}
 use Rattle.lab_store_write.proofs.Inside.{none_then}
 use Rattle.lab_store_write.proofs.Writers.{stays_then}
-use Rattle.lab_move_write.specs.Causes.{making_texts, FailsMaking}
+use Rattle.lab_move_write.specs.Causes.{making_texts}
+use Rattle.lab_move_write.specs.Private.Causes.{FailsMaking}
 use Rattle.lab_move_write.specs.Tables.{own_tables, schema_of}
-use Rattle.lab_move_write.specs.Unfinished.{IsUnfinished, Begins, Makes}
+use Rattle.lab_move_write.specs.Unfinished.{IsUnfinished, Begins}
+use Rattle.lab_move_write.specs.Private.Unfinished.{Makes}
 use Rattle.lab_move_write.proofs.Statements.{MakesTable, AreMadeFrom, all_made, index_makes, index_text, index_plain, index_is, whole_is}
 
 -- a part that gave a value did not stop on the way

@@ -20,11 +20,12 @@ use Rattle.lab_store_tables.specs.Ready.{tables_of}
 use Rattle.lab_store_tables.specs.ByRules.{IsByRules}
 use Rattle.lab_store_tables.specs.Steps.{AppliesWhereKept, StepsBy}
 use Rattle.lab_store_tables.proofs.KeptByRules.{ids_by_order, keys_by_rules, arrows_by_rules}
-use Rattle.lab_store_write.specs.Calls.{Steps, Writes}
-use Rattle.lab_store_write.specs.Causes.{FailsBy}
+use Rattle.lab_store_write.specs.Calls.{Steps}
+use Rattle.lab_store_write.specs.Private.Calls.{Writes}
+use Rattle.lab_store_write.proofs.AnyEndings.{FailsBy}
 use Rattle.lab_store_write.proofs.Writers.{nothing_done, stays_then}
 use Rattle.lab_store_write_changes.proofs.Failures.{failed_behind}
-use Rattle.lab_move_write.specs.Turns.{MakesInTurn}
+use Rattle.lab_move_write.specs.Private.Turns.{MakesInTurn}
 
 -- what a database that keeps its own rules says of the tables
 pub rules_of : (db : Database) → IsTyped db → IsDatabase db → IsByRules (tables_in db.trees)

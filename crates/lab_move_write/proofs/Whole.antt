@@ -23,7 +23,7 @@ use Rattle.lab_store_write.proofs.Writers.{stays_then}
 use Rattle.lab_store_write_changes.proofs.Failures.{failed_so, failed_behind}
 use Rattle.lab_store_write_changes.specs.NewbornRows.{AddsLab}
 use Rattle.lab_move_write.specs.Placings.{whole_changes, PlacesByRules}
-use Rattle.lab_move_write.specs.Turns.{MakesInTurn}
+use Rattle.lab_move_write.specs.Private.Turns.{MakesInTurn}
 use Rattle.lab_move_write.proofs.Turns.{rules_of, made_then, changes_as}
 
 pub whole_placed : (lab : Lab) (id : ℤ) (a b c : State) → (IsTyped a.now → IsDatabase b.now) → Steps (AddsLab id lab) a b

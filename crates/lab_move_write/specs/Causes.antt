@@ -38,9 +38,6 @@ pub record EndsMaking (Was : Database → Type 0) {T : Type 0} (state : T → St
   pub made : Was (state old).now → IsEmptyUnder (schema_of (take at own_tables)) (state last).now
   pub refused : ExecutesInside 0 (get_or making_texts at []) [] (state last) (state new) (Err e)
 
-abbrev pub FailsMaking : (Database → Type 0) → {T : Type 0} → (T → State) → T → T → Error → Type 0
-FailsMaking Was state old new e = IsTrue (is_out_of_memory e) ⊎ EndsMaking Was state old new e
-
 -- the tables weren't made; of a file that wasn't empty it isn't said which tables it had then
 abbrev pub AreUnmade : {S : Type 0} → Ghosts S → Held S → Held S → Type 0
 AreUnmade g old new =

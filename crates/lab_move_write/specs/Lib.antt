@@ -4,5 +4,5 @@ pub mod Commits
 pub mod Namings
 pub mod Placings
 pub mod Tables
-pub mod Turns
 pub mod Unfinished
+pub mod Private

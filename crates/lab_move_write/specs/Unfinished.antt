@@ -1,10 +1,8 @@
 -- A file that is to be filled: the twelve tables, none of which has a row. The one that names the
 -- schema comes last, so that a file which was left before is none in which laboratories are kept
 -- (21 CFR 11.10(a), "the ability to discern invalid or altered records").
-use Rattle.std.specs.Prelude.{◌≡◌, ℕ, List, [], None, Result, IfErr, OnOk, IsTrue}
-use Rattle.sqlite.specs.declared.error.Error.{Error}
+use Rattle.std.specs.Prelude.{◌≡◌, ℕ, List, [], None}
 use Rattle.sqlite.specs.Effect.{Database}
-use Rattle.sqlite.specs.State.{State, HasCleanDisk}
 use Rattle.lab_records_keeper.specs.Worlds.{SameMeaning}
 use Rattle.lab_store_tables.specs.Rows.{tables_in}
 use Rattle.lab_store_tables.specs.Family.{empty_tables}
@@ -13,8 +11,6 @@ use Rattle.lab_store_tables.specs.Meaning.{meaning}
 use Rattle.lab_store_tables.specs.Ready.{IsKept}
 use Rattle.lab_store_tables.specs.WellKept.{AreWellKept}
 use Rattle.lab_store_files.specs.NewFiles.{IsBlank}
-use Rattle.lab_store_write.specs.Calls.{Stays}
-use Rattle.lab_move_write.specs.Causes.{FailsMaking}
 
 abbrev pub IsUnfinished : Database → Type 0
 IsUnfinished db = Holds db empty_tables
@@ -35,17 +31,3 @@ abbrev pub Finishes : Database → Database → Type 0
 Finishes was db =
     IsBeingFilled was
     → IsKept db × SameMeaning (meaning (tables_in was.trees)) (meaning (tables_in db.trees))
-
--- a call inside a transaction, which makes the one of the other
-pub record Makes {T A : Type 0} (lender : T → ℕ × ℕ) (state : T → State)
-    (Was Is : Database → Type 0) (old new : T) (result : Result A Error) : Type 0 where
-  -- however it ends, it commits nothing
-  pub stays : Stays lender state old new
-  -- where it ended well, the transaction goes on, and what was so is so
-  pub inside : IsTrue (state old).in_transaction → HasCleanDisk (state new)
-      → OnOk result (IsTrue (state new).in_transaction)
-  pub made : IsTrue (state old).in_transaction → HasCleanDisk (state new)
-      → OnOk result (Was (state old).now → Is (state new).now)
-  -- it failed for want of memory, or because one of its statements was refused
-  pub failed : IsTrue (state old).in_transaction → HasCleanDisk (state new)
-      → IfErr result (FailsMaking Was state old new)

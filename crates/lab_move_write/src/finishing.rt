@@ -6,7 +6,8 @@ ghost use Rattle.sqlite.specs.State.{ExecutesInside, HasCleanDisk, KeepsCommit, 
 ghost use Rattle.lab_store_tables.specs.Ready.{IsAtRest, IsMadeBy};
 ghost use Rattle.lab_store_read.specs.Cells.{storage};
 ghost use Rattle.lab_store_read.specs.Faults.{is_out_of_memory};
-ghost use Rattle.lab_store_write.specs.Calls.{Steps, Writes};
+ghost use Rattle.lab_store_write.specs.Calls.{Steps};
+ghost use Rattle.lab_store_write.specs.Private.Calls.{Writes};
 ghost use Rattle.lab_move_write.specs.Causes.{NamingEndsForCause};
 ghost use Rattle.lab_move_write.specs.Commits.{MakesAtOnce};
 ghost use Rattle.lab_move_write.specs.Unfinished.{Finishes};

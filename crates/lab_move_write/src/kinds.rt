@@ -4,9 +4,9 @@ ghost use Rattle.std.specs.Prelude.{◌≡◌, [], ◌∷◌, ◌++◌, map, fil
 ghost use Rattle.lab_records_kept.specs.declared.changes.Change.TheVariants.{PersonAdded, PersonSet, SessionAdded, FormAdded, RecordAdded, TrailAdded};
 ghost use Rattle.lab_store_tables.specs.Placing.{unasked as bare, is_asked_for};
 ghost use Rattle.lab_store_tables.specs.Changes.{AddsPerson};
-ghost use Rattle.lab_store_write.specs.Calls.{Writes};
+ghost use Rattle.lab_store_write.specs.Private.Calls.{Writes};
 ghost use Rattle.lab_move_write.specs.Placings.{whole_changes};
-ghost use Rattle.lab_move_write.specs.Turns.{MakesInTurn};
+ghost use Rattle.lab_move_write.specs.Private.Turns.{MakesInTurn};
 
 use crate::progress::MoveProgress;
 use lab_forms_texts::OutOfMemory;

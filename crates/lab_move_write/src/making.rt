@@ -9,10 +9,12 @@ ghost use Rattle.lab_store_files.specs.declared.faults.FileFault.TheVariants.{No
 ghost use Rattle.lab_store_files.specs.NewFiles.{IsEmptyUnder, IsBlank};
 ghost use Rattle.lab_store_files.specs.Schemas as spec;
 ghost use Rattle.lab_store_read.specs.Faults.{is_out_of_memory};
-ghost use Rattle.lab_move_write.specs.Causes.{FailsMaking, MakingEndsForCause};
+ghost use Rattle.lab_move_write.specs.Private.Causes.{FailsMaking};
+ghost use Rattle.lab_move_write.specs.Causes.{MakingEndsForCause};
 ghost use Rattle.lab_move_write.specs.Commits.{MakesAtOnce};
 ghost use Rattle.lab_move_write.specs.Tables.{own_tables, schema_of};
-ghost use Rattle.lab_move_write.specs.Unfinished.{IsUnfinished, Begins, Makes};
+ghost use Rattle.lab_move_write.specs.Unfinished.{IsUnfinished, Begins};
+ghost use Rattle.lab_move_write.specs.Private.Unfinished.{Makes};
 
 use crate::schemas::is_taken;
 use crate::texts;

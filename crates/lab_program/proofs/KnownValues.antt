@@ -5,7 +5,8 @@ use Rattle.lab_forms_texts.specs.Names.{is_lab_code}
 use Rattle.lab_forms_texts.specs.declared.faults.BadName.{BadName}
 use Rattle.lab_forms_texts.specs.declared.refusals.Fault.{Fault}
 use Rattle.lab_program_host.specs.TaskEnds.{TaskEnd}
-use Rattle.lab_program.specs.Laboratories.{front_of, OfCode}
+use Rattle.lab_program.specs.Private.Laboratories.{front_of}
+use Rattle.lab_program.specs.Laboratories.{OfCode}
 
 pub known_fronts : (front_of None ≡ None) × (front_of (Some (codes "{}")) ≡ Some (codes "{}"))
 known_fronts = (refl, refl)

@@ -16,7 +16,7 @@ use Rattle.lab_program_opening.specs.declared.faults.OpenFault.{OpenFault}
 use Rattle.lab_program_serve.specs.Rehearsals.{rehearsal_tick}
 use Rattle.lab_program_serve.specs.RehearseTask.{FoundsBy, IsRehearsal}
 use Rattle.lab_program_files.specs.Foundings.{Ends, EndsClosed, EndsFounding, EndsOver, FoundTask, IsFoundedAt, IsFounding, IsRefusedAt}
-use Rattle.lab_program.specs.Laboratories.{front_of}
+use Rattle.lab_program.specs.Private.Laboratories.{front_of}
 
 front_says : (bytes : List ℕ) → founding_in (take (body_limit + 1) bytes) ≡ founding_in bytes
 front_says bytes = said_by_front (body_limit + 1) bytes (lit< tt)

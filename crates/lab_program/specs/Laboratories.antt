@@ -1,5 +1,5 @@
 -- Tasks of one laboratory, which the words name by a text, and whose founding comes by the input.
-use Rattle.std.specs.Prelude.{ℕ, ◌+◌, Bool, true, false, List, [], ◌∷◌, Option, Err, option_map, take}
+use Rattle.std.specs.Prelude.{ℕ, Bool, true, false, List, [], ◌∷◌, Option, Err}
 use Rattle.std.specs.Io.KnownBytes.{Keeps}
 use Rattle.clap.specs.declared.error.kind.ErrorKind.TheVariants.{ValueValidation}
 use Rattle.sqlite_trees.specs.declared.store.Store.{Ghosts}
@@ -8,7 +8,6 @@ use Rattle.lab_forms_texts.specs.Faults.{name_fault_entry}
 use Rattle.lab_forms_texts.specs.Names.{is_lab_code}
 use Rattle.lab_forms_texts.specs.declared.faults.BadName.{BadName}
 use Rattle.lab_forms_texts.specs.declared.refusals.Fault.{Fault}
-use Rattle.lab_desk_foundings.specs.Foundings.{body_limit}
 use Rattle.lab_program_host.specs.Faults.{PrintsFault}
 use Rattle.lab_program_host.specs.TaskEnds.{TaskEnd}
 use Rattle.lab_program_serve.specs.RehearseTask.{IsRehearsal}
@@ -18,10 +17,6 @@ use Rattle.lab_program_files.specs.Copying.{CopyTask, IsCopying}
 use Rattle.lab_program_files.specs.FileWorlds.{file_keeper, file_refuses}
 use Rattle.lab_program_files.specs.Foundings.{FoundTask, IsFounding}
 use Rattle.lab_program_app.specs.Explaining.{IsExplained}
-
--- the first bytes of an input, one more than a founding's body may have
-abbrev pub front_of : Option (List ℕ) → Option (List ℕ)
-front_of = option_map (take (body_limit + 1))
 
 -- nothing was done, and this word was told: the status is 1
 abbrev pub Declines : List ℕ → TaskEnd → Type 0

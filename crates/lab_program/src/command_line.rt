@@ -7,7 +7,8 @@ ghost use Rattle.lab_program_app.specs.Apps.{labdesk_app};
 ghost use Rattle.lab_forms_streams.specs.declared.sending.WriteFault.{WriteFault as Untold};
 ghost use Rattle.lab_program.specs.CommandLine.{IsDone, exit_status};
 ghost use Rattle.lab_program_app.specs.Explaining.{IsExplained};
-ghost use Rattle.lab_program_words.specs.Tasks.{Asked, AsksTask, IsTask};
+ghost use Rattle.lab_program_words.specs.Tasks.{Asked, AsksTask};
+ghost use Rattle.lab_program_words.specs.Private.Tasks.{IsTask};
 
 use crate::copies::check_for;
 use crate::laboratories::{copy_for, found_for, rehearse_for};
@@ -109,6 +110,6 @@ where
 {
     match labdesk(host, words, input, streams) {
         Ok(status) => status,
-        Err(_untold) => UNTOLD,
+        Err(_) => UNTOLD,
     }
 }

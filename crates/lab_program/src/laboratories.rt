@@ -7,7 +7,8 @@ ghost use Rattle.lab_forms_texts.specs.Ordinals.{is_ordinal};
 ghost use Rattle.lab_program_host.specs.Faults.{PrintsFault};
 ghost use Rattle.lab_program_host.specs.Hosts.{drawing_between, end_between};
 ghost use Rattle.lab_program_opening.specs.Ends.{WasClosed};
-ghost use Rattle.lab_program.specs.Laboratories.{IsCopied, IsCopiedIf, IsFounded, IsRehearsed, front_of};
+ghost use Rattle.lab_program.specs.Laboratories.{IsCopied, IsCopiedIf, IsFounded, IsRehearsed};
+ghost use Rattle.lab_program.specs.Private.Laboratories.{front_of};
 
 use lab_desk_foundings::BODY_LIMIT;
 use lab_forms_streams::WriteFault;

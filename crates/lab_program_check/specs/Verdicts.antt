@@ -39,10 +39,6 @@ abbrev pub verdict_status : Result Counts Flaw → ℕ
 verdict_status (Ok counts) = 0
 verdict_status (Err flaw) = 1
 
--- a line and a status are those of a verdict
-abbrev pub IsFound : Result Counts Flaw → List ℕ → ℕ → Type 0
-IsFound verdict line status = (line ≡ verdict_line verdict) × (status ≡ verdict_status verdict)
-
 -- the flaw of a verdict, where there is one
 abbrev pub IsFlaw : Result Counts Flaw → Option Flaw → Type 0
 IsFlaw (Ok counts) found = found ≡ None

@@ -2,7 +2,8 @@
 ghost use Rattle.std.specs.Prelude.{◌≡◌, ◌≢◌, IfOk, IfErr, IsSome};
 ghost use Rattle.lab_copy.specs.Checks.{OfVerdict};
 ghost use Rattle.lab_program_check.specs.declared.faults.StopFault.TheVariants.{Write as NotWritten};
-ghost use Rattle.lab_program_check.specs.Verdicts.{good_line, bad_line, status_of, IsFlaw, IsFound, IsVerdictTold, IsCheck};
+ghost use Rattle.lab_program_check.specs.Verdicts.{good_line, bad_line, status_of, IsFlaw, IsVerdictTold, IsCheck};
+ghost use Rattle.lab_program_check.specs.Private.Verdicts.{IsFound};
 
 use crate::faults::StopFault;
 use lab_copy::{CopyFault, Counts, Flaw, OutOfMemory, check_copy};

@@ -25,7 +25,8 @@ use Rattle.lab_desk_foundings.proofs.Bearing.{takes_founded, takes_refused}
 use Rattle.lab_desk_foundings.specs.declared.faults.FoundFault.{FoundFault}
 use Rattle.lab_desk_foundings.specs.declared.faults.FoundFault.TheVariants.{Body as OfBody, Birth as OfBirth, Placing}
 use Rattle.lab_desk_foundings.specs.Faults.{FoundFaultFits, found_fault_entry, is_taken}
-use Rattle.lab_desk_foundings.specs.Foundings.{Body, RefusesFounding, TakesFounding, founded_line, founding_in, refused_line}
+use Rattle.lab_desk_foundings.specs.Foundings.{Body, founded_line, founding_in, refused_line}
+use Rattle.lab_desk_foundings.specs.Private.Foundings.{RefusesFounding, TakesFounding}
 use Rattle.lab_desk_events.specs.declared.events.Event.TheVariants.{Found}
 use Rattle.lab_desk_events.specs.Alone.{Founding, Happening}
 use Rattle.lab_desk_events.specs.Keeping.{AreWithin, GivenWithin}

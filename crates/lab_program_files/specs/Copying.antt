@@ -1,5 +1,5 @@
 -- The inspection copy of a laboratory of a file (21 CFR 11.10(b); docs/COPIES.md has its text).
-use Rattle.std.specs.Prelude.{◌≡◌, ◌⊎◌, ℕ, List, [], ◌∷◌, Option, Some, None, Result, IfErr, IfOk, IsSome}
+use Rattle.std.specs.Prelude.{◌≡◌, ◌⊎◌, ℕ, List, [], ◌∷◌, Option, None, Result, IfErr, IfOk, IsSome}
 use Rattle.std.specs.Io.KnownBytes.{Keeps}
 use Rattle.lab_records_keeper.specs.declared.keeper.Keeper.{Ghosts}
 use Rattle.lab_records_keeper.specs.Worlds.{Given, Shuts}
@@ -53,10 +53,6 @@ module _ {S : Type 0} (keeper : Ghosts S) (refuses : Refusing S) (task : CopyTas
     -- a fault alone shut the keeper
     pub shuts : Given (keeper.world old) (keeper.world new)
         (Shuts (keeper.world old) (keeper.world new))
-
-  -- so it was; and what is left to be closed is the keeper as the copy left it
-  abbrev pub CopiesTo : Result (Unit {0}) CopyOutFault → Option S → Type 0
-  CopiesTo ending finished = (copies : Copies ending) × (finished ≡ Some copies.new)
 
 -- the task `copy`, by its status and what was told: the keeper was closed as the copy left it
 module _ {S : Type 0} (keeper : Ghosts S) (refuses : Refusing S) (task : CopyTask)

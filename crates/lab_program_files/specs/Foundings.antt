@@ -1,6 +1,6 @@
 -- Founding a laboratory over a keeper, and in a file: how it ended, what it made, and what was
 -- printed (ISO/IEC 17025:2017, 7.11.2; docs/FORMATS.md has the body and the line).
-use Rattle.std.specs.Prelude.{◌≡◌, ◌⊎◌, ◌<◌, ℕ, List, Option, Some, None, Result, Ok, Err, IfErr, IfOk, IfSome, IsSome, length, take}
+use Rattle.std.specs.Prelude.{◌≡◌, ◌<◌, ℕ, List, Option, Result, Ok, Err, IfErr, IfOk, IfSome, IsSome, length, take}
 use Rattle.std.specs.Io.KnownBytes.{Appends, Keeps}
 use Rattle.lab_forms_texts.specs.declared.tick.Tick.{Tick}
 use Rattle.lab_records_keeper.specs.declared.keeper.Keeper.{Ghosts}
@@ -99,10 +99,6 @@ module _ {S : Type 0} (keeper : Ghosts S) (task : FoundTask) where
     abbrev pub EndsOver : Result (Unit {0}) FoundingFault → Type 0
     EndsOver ending = (old : S) × (new : S) × opened old × Ends old new ending
         × Passes (keeper.world old) (keeper.world new)
-
-    -- so it ended; and what is left to be closed is the keeper as the founding left it
-    abbrev pub EndsAs : Result (Unit {0}) FoundingFault → Option S → Type 0
-    EndsAs ending finished = (ends : EndsOver ending) × (finished ≡ Some ends.1)
 
     -- so it ended, and the keeper was closed as the founding left it
     abbrev pub EndsClosed : (S → Type 0) → Result (Unit {0}) FoundingFault → Type 0

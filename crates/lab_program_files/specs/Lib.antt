@@ -5,3 +5,4 @@ pub mod Serving
 pub mod Starts
 pub mod Stops
 pub mod Histories
+pub mod Private

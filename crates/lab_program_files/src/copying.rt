@@ -2,7 +2,8 @@
 
 ghost use Rattle.std.specs.Prelude.{◌≡◌, IfErr, IfOk, IfSome, MatchOption};
 ghost use Rattle.std.specs.Io.KnownBytes.{Keeps};
-ghost use Rattle.lab_program_files.specs.Copying.{CopiesTo, IsCopying};
+ghost use Rattle.lab_program_files.specs.Private.Copying.{CopiesTo};
+ghost use Rattle.lab_program_files.specs.Copying.{IsCopying};
 ghost use Rattle.lab_program_files.specs.FileWorlds.{file_keeper, file_refuses};
 ghost use Rattle.lab_program_host.specs.Hosts.{end_between};
 ghost use Rattle.lab_program_opening.specs.Ends.{WasClosed};

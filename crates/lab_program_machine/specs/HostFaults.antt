@@ -1,17 +1,7 @@
 -- The faults for which a file of this machine isn't opened.
-use Rattle.lab_store_files.specs.declared.faults.FileFault.{FileFault}
 use Rattle.lab_store_files.specs.declared.faults.FileFault.TheVariants.{NotADeskFile, SchemaOld, SchemaNew, Storage, NotEmpty, Memory}
 use Rattle.lab_program_opening.specs.declared.faults.OpenFault.{OpenFault}
 use Rattle.lab_program_opening.specs.declared.faults.OpenFault.TheVariants.{File, Drawing}
-
--- none of them is about a schema, or about what is in the file
-abbrev pub IsOfHost : FileFault → Type 0
-IsOfHost NotADeskFile = Unit {0}
-IsOfHost (SchemaOld _) = ⊥
-IsOfHost (SchemaNew _) = ⊥
-IsOfHost Storage = Unit {0}
-IsOfHost NotEmpty = ⊥
-IsOfHost Memory = Unit {0}
 
 -- and where there is an old file of a move, that file is refused as the new one
 abbrev pub HostRefuses : Type 0 → OpenFault → Type 0

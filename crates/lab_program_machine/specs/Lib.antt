@@ -1,1 +1,2 @@
 pub mod HostFaults
+pub mod Private

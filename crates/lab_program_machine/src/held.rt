@@ -7,7 +7,7 @@ ghost use Rattle.sqlite.specs.Files.{over_files};
 ghost use Rattle.sqlite_wal.specs.Files.{image_at};
 ghost use Rattle.lab_store_tables.specs.Ready.{IsAtRest};
 ghost use Rattle.lab_program_opening.specs.Files.{AreHeldIn, Finds};
-ghost use Rattle.lab_program_machine.specs.HostFaults.{IsOfHost};
+ghost use Rattle.lab_program_machine.specs.Private.HostFaults.{IsOfHost};
 
 use crate::hosts::{HostVolume, Supposed};
 use crate::places::Places;

@@ -1,7 +1,8 @@
 //! The files of this machine.
 
 ghost use Rattle.std.specs.Prelude.{◌≡◌, IfErr, IsSome, IsTrue};
-ghost use Rattle.lab_program_machine.specs.HostFaults.{HostRefuses, IsOfHost};
+ghost use Rattle.lab_program_machine.specs.HostFaults.{HostRefuses};
+ghost use Rattle.lab_program_machine.specs.Private.HostFaults.{IsOfHost};
 
 use crate::held::{Held, connection_over, fault_of_holding};
 use crate::machine::print_records;

@@ -1,7 +1,7 @@
 //! The places of a file, its log and its journal, whatever links lead there.
 
 ghost use Rattle.std.specs.Prelude.{IfErr};
-ghost use Rattle.lab_program_machine.specs.HostFaults.{IsOfHost};
+ghost use Rattle.lab_program_machine.specs.Private.HostFaults.{IsOfHost};
 
 use lab_store_files::FileFault;
 use std::alloc::{AllocError, Global};

@@ -1,7 +1,7 @@
 -- Moving the laboratories of an old file into a new one: how it ended, what was made, and what was
 -- printed (21 CFR 11.10(c), "protection of records to enable their accurate and ready retrieval
 -- throughout the records retention period"; docs/FORMATS.md has the lines).
-use Rattle.std.specs.Prelude.{◌≡◌, ◌⊎◌, ◌<◌, ◌++◌, ℕ, List, Option, Some, Result, Ok, Err, IfErr, IfOk, OnOk, codes, decimal, length, take}
+use Rattle.std.specs.Prelude.{◌≡◌, ◌⊎◌, ◌<◌, ◌++◌, ℕ, List, Option, Result, Ok, Err, IfErr, IfOk, OnOk, codes, decimal, length, take}
 use Rattle.std.specs.Io.KnownBytes.{Appends, Keeps}
 use Rattle.sqlite_trees.specs.Tree.{Trees}
 use Rattle.sqlite_trees.specs.declared.store.Store.{Ghosts}
@@ -124,12 +124,6 @@ module _ {S : Type 0} (disk : Ghosts S) where
     pub cause : HasCleanDisk (state disk moves.left) → HasCleanDisk (state disk moves.made) →
         IfErr result (λ fault. fault ≡ File Storage →
         IsMoveCaused (state disk) disk old moves.left new moves.made)
-
-  -- so it was; and what is left to be closed is the new file as it was left
-  abbrev pub MovesTo : (old new : Held S) → Result ℕ MoveFault → Option (Held S) → Type 0
-  MovesTo old new ending finished =
-      (moves : Moves old new ending) × AnswersRightly old new ending moves
-      × (finished ≡ Some moves.made)
 
   -- an old file that held this was found, and asked which schema it has, and owes this refusal
   pub record RefusesOld (IsHeld : Trees → Type 0) (fault : FileFault) : Type 0 where

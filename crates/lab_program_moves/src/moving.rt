@@ -8,7 +8,8 @@ ghost use Rattle.lab_program_host.specs.Hosts.{end_between};
 ghost use Rattle.lab_program_opening.specs.Ends.{WasClosed};
 ghost use Rattle.lab_program_opening.specs.Volumes.{IsOfFile, IsRefusedBy};
 ghost use Rattle.lab_program_opening.specs.Faults.{TellsWord};
-ghost use Rattle.lab_program_moves.specs.Moves.{IsAsked, IsMigration, MovesTo, Prints, RefusesOld, TellsFault, TellsUnsound, migrated_line};
+ghost use Rattle.lab_program_moves.specs.Moves.{IsAsked, IsMigration, Prints, RefusesOld, TellsFault, TellsUnsound, migrated_line};
+ghost use Rattle.lab_program_moves.specs.Private.Moves.{MovesTo};
 
 use lab_forms_streams::{WriteFault, write_whole};
 use lab_forms_texts::{LabCode, OutOfMemory};

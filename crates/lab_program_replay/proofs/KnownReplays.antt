@@ -2,7 +2,8 @@
 -- its first event (docs/FORMATS.md).
 use Rattle.std.proofs.Common.{◌≡◌, refl, List, ℕ, None}
 use Rattle.lab_program_replay.specs.declared.fault.ReplayFault.TheVariants.{BadEvent, ReadFault, WriteFault, Storage, Memory}
-use Rattle.lab_program_replay.specs.Replays.{nobody, IsBeginFault}
+use Rattle.lab_program_replay.specs.Replays.{nobody}
+use Rattle.lab_program_replay.specs.Private.Replays.{IsBeginFault}
 
 -- a replay begins with no laboratory of any code
 pub known_beginning : (code : List ℕ) → nobody code ≡ None

@@ -7,7 +7,8 @@ use Rattle.lab_program_replay.specs.declared.event.Heading.{Heading as HeadingRe
 use Rattle.lab_program_replay.specs.declared.fault.ReplayFault.{ReplayFault}
 use Rattle.lab_program_replay.specs.declared.fault.ReplayFault.TheVariants.{BadEvent, ReadFault, WriteFault, Storage, Memory}
 use Rattle.lab_program_replay.specs.Event.{cut_at, most_line, line_at, short_line, ◌>>=◌, heading_of, next_event, next_of, with_bytes, Event, End, Bad, Taken}
-use Rattle.lab_program_replay.specs.Reading.{IsReadingRefused, TakesByte, TakesLine, TakesBytes, TakesNext, heading_said, event_said}
+use Rattle.lab_program_replay.specs.Private.Reading.{IsReadingRefused, TakesByte, TakesLine, TakesBytes, heading_said}
+use Rattle.lab_program_replay.specs.Reading.{TakesNext, event_said}
 use Rattle.lab_program_replay.proofs.ReadLemmas.{HasRead, after, cut_feed, cut_end}
 
 short_test : (b : Bool) (parts : List ℕ × List ℕ) → b ≡ true → cond b (Some parts) None ≡ Some parts

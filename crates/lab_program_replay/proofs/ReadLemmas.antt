@@ -11,7 +11,7 @@ use borrow.Rule.Slice.PartMut.{put_mid}
 use Rattle.lab_program_replay.specs.declared.fault.ReplayFault.{ReplayFault}
 use Rattle.lab_program_replay.specs.declared.fault.ReplayFault.TheVariants.{BadEvent, ReadFault, WriteFault, Storage, Memory}
 use Rattle.lab_program_replay.specs.Event.{cut_at, line_feed}
-use Rattle.lab_program_replay.specs.Reading.{TakesAtMost, TakesByte}
+use Rattle.lab_program_replay.specs.Private.Reading.{TakesAtMost, TakesByte}
 
 -- a part that was read into stands after what was there
 put_more : (a k n : ℕ) (xs ys : List ℕ) → a ≤ length xs → n ≤ length ys →

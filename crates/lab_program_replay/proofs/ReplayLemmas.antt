@@ -22,7 +22,8 @@ use Rattle.lab_program_replay.specs.declared.fault.ReplayFault.TheVariants.{BadE
 use Rattle.lab_program_replay.specs.Event.{next_event}
 use Rattle.lab_program_replay.specs.Fault.{IsReaderFault}
 use Rattle.lab_program_replay.specs.Replay.{BeginsWith, IsWritten, Replays, Stops}
-use Rattle.lab_program_replay.specs.Replays.{IsBeginFault, ReplaysFromNothing, nobody}
+use Rattle.lab_program_replay.specs.Private.Replays.{IsBeginFault}
+use Rattle.lab_program_replay.specs.Replays.{ReplaysFromNothing, nobody}
 
 -- ---- nothing was begun
 

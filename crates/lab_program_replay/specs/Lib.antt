@@ -4,3 +4,4 @@ pub mod Limited
 pub mod Reading
 pub mod Replay
 pub mod Replays
+pub mod Private

@@ -10,22 +10,12 @@ use Rattle.lab_desk_events.specs.declared.events.Event.{Event}
 use Rattle.lab_desk_events.specs.Keeping.{OfAll}
 use Rattle.lab_desk_events.specs.Runs.{Handled, AreAlone, IsAnswer, KeepsAlong, after_run}
 use Rattle.lab_program_replay.specs.declared.fault.ReplayFault.{ReplayFault}
-use Rattle.lab_program_replay.specs.declared.fault.ReplayFault.TheVariants.{BadEvent, ReadFault, WriteFault, Storage, Memory}
 use Rattle.lab_program_replay.specs.Event.{next_event}
 use Rattle.lab_program_replay.specs.Replay.{AreEvents, BeginsWith, IsWritten, Stops, PrintsReplayFault}
 
 -- there is no laboratory
 abbrev pub nobody : Meaning
 nobody code = None
-
--- a fault that can come before the first event: the input couldn't be read, no store could be made,
--- or memory ran out
-abbrev pub IsBeginFault : ReplayFault → Type 0
-IsBeginFault BadEvent = ⊥
-IsBeginFault ReadFault = Unit {0}
-IsBeginFault WriteFault = ⊥
-IsBeginFault Storage = Unit {0}
-IsBeginFault Memory = Unit {0}
 
 -- the events that the input begins with were handled and their answers written; each is answered as
 -- it may be, each laboratory's answers are those of its own machine, run from nothing over its own

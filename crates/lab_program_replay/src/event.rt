@@ -5,7 +5,8 @@ ghost use Rattle.std.specs.Io.KnownBytes.{Consumes, IsAtEnd};
 ghost use Rattle.lab_forms_texts.specs.Moment.{is_moment};
 ghost use Rattle.lab_program_replay.specs.Event.{cut_at, number_where, lab_code, last_first_word, most_line, numbered, founding_of, heading_of, next_event};
 ghost use Rattle.lab_program_replay.specs.Fault.{IsInputFault};
-ghost use Rattle.lab_program_replay.specs.Reading.{GivesReading, TakesAtMost, TakesByte, TakesBytes, TakesLine, TakesNext, heading_said};
+ghost use Rattle.lab_program_replay.specs.Private.Reading.{GivesReading, TakesAtMost, TakesByte, TakesBytes, TakesLine, heading_said};
+ghost use Rattle.lab_program_replay.specs.Reading.{TakesNext};
 
 use crate::fault::ReplayFault;
 use lab_desk::Event;

@@ -3,7 +3,8 @@
 ghost use Rattle.std.specs.Prelude.{◌≡◌, ℕ, List, None, IfOk, IfErr};
 ghost use Rattle.sqlite.specs.Steps.{over_memory};
 ghost use Rattle.lab_store.specs.StoreWorlds.{store_world};
-ghost use Rattle.lab_program_replay.specs.Replays.{IsBeginFault, IsReplay, ReplaysFromNothing};
+ghost use Rattle.lab_program_replay.specs.Private.Replays.{IsBeginFault};
+ghost use Rattle.lab_program_replay.specs.Replays.{IsReplay, ReplaysFromNothing};
 
 use crate::memory::store_in_memory;
 use crate::{Desk, LimitedReader, MOST_ASKS, ReplayFault, run_events, tell};

@@ -19,7 +19,8 @@ use Rattle.lab_program_host.proofs.ReadLemmas.{all_of}
 use Rattle.lab_program_host.specs.declared.faults.RehearsalFault.{RehearsalFault}
 use Rattle.lab_program_host.specs.declared.faults.RehearsalFault.TheVariants.{Founding, Server}
 use Rattle.lab_program_host.specs.declared.faults.ServerFault.{ServerFault}
-use Rattle.lab_program_serve.specs.Rehearsals.{Forwards, IsFounded, IsServedAt, IsUnfounded, OfBody, rehearsal_tick}
+use Rattle.lab_program_serve.specs.Rehearsals.{Forwards, IsServedAt, IsUnfounded, OfBody, rehearsal_tick}
+use Rattle.lab_program_serve.specs.Private.Rehearsals.{IsFounded}
 use Rattle.lab_program_serve.specs.RehearseTask.{Prints}
 use Rattle.lab_program_serve.specs.Texts.{IsPrinted}
 use Rattle.lab_program_serve.specs.Visits.{Visit}

@@ -10,7 +10,8 @@ use Rattle.lab_desk.specs.Desk.{Served}
 use Rattle.lab_desk_events.specs.Keeping.{GivenWithin, Stays, StaysOn}
 use Rattle.lab_desk_events.proofs.Lasting.{stays_after, stays_first, still_stays}
 use Rattle.lab_program_host.specs.Sources.{GivesInOrder}
-use Rattle.lab_program_serve.specs.Times.{AreRefused, AreTimes, BeginWith, EndWith, IsAsked, IsAskedIfAny, IsGivenUp, IsMended, IsMet, IsNext, IsHandledShut, IsServed, IsTime, IsUnmended, ServesTimes, Time, visits_of}
+use Rattle.lab_program_serve.specs.Times.{AreRefused, AreTimes, BeginWith, EndWith, IsAsked, IsGivenUp, IsMended, IsMet, IsNext, IsHandledShut, IsServed, IsTime, IsUnmended, ServesTimes, Time, visits_of}
+use Rattle.lab_program_serve.specs.Private.Times.{IsAskedIfAny}
 use Rattle.lab_program_serve.specs.Visits.{AreCounted, AreGiven, GoesOn, KeepsGiven, Sources, Visit}
 use Rattle.lab_program_serve.proofs.VisitWords.{reply_after}
 use Rattle.lab_program_serve.proofs.VisitLemmas.{first_of, given_more, given_none, reply_last, sources_of, visits_more}

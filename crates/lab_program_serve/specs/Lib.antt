@@ -6,3 +6,4 @@ pub mod Shut
 pub mod Texts
 pub mod Times
 pub mod Visits
+pub mod Private

@@ -3,9 +3,8 @@
 use Rattle.std.specs.Prelude.{◌≡◌, ◌⊎◌, ◌++◌, ℕ, List, [], ◌∷◌, Option, Result, Ok, Err, IfSome, codes, take}
 use Rattle.std.specs.Io.KnownBytes.{Appends}
 use Rattle.lab_forms_texts.specs.declared.tick.Tick.{Tick}
-use Rattle.lab_records_kept.specs.declared.labs.Lab.{Lab}
 use Rattle.lab_desk_foundings.specs.Faults.{FoundFaultFits}
-use Rattle.lab_desk_foundings.specs.Foundings.{IsNewborn, founding_in}
+use Rattle.lab_desk_foundings.specs.Foundings.{founding_in}
 use Rattle.lab_program_serve.specs.Visits.{Visit}
 use Rattle.lab_program_host.specs.declared.faults.RehearsalFault.{RehearsalFault}
 use Rattle.lab_program_host.specs.declared.faults.RehearsalFault.TheVariants.{Founding, Server}
@@ -21,11 +20,6 @@ rehearsal_tick moment = record {
 -- they were read
 abbrev pub OfBody : Option (List ℕ) → (List ℕ → Type 0) → Type 0
 OfBody known Holds = (bytes : List ℕ) × IfSome known (λ all. bytes ≡ all) × Holds bytes
-
--- the laboratory of the code was born from the body, and there is no other
-abbrev pub IsFounded : List ℕ → List ℕ → List Lab → Type 0
-IsFounded code body labs =
-    (lab : Lab) × IsNewborn code (rehearsal_tick 0) (founding_in body) lab × (labs ≡ lab ∷ [])
 
 -- a refusal of the founding is the body's, or tells why no laboratory is born from it
 abbrev pub IsUnfounded : List ℕ → List ℕ → RehearsalFault → Type 0

@@ -65,12 +65,6 @@ module _ {S : Type 0} (keeper : Ghosts S) where
   IsAsked old new = (new ≡ old)
       ⊎ ((answer : Result (Unit {0}) (Fault BadStore)) × AnswersRequest keeper old new answer)
 
-  -- where there is a desk
-  abbrev pub IsAskedIfAny : Option (Served S) → Option (Served S) → Type 0
-  IsAskedIfAny (Some old) (Some new) = IsAsked old.keeper new.keeper
-  IsAskedIfAny None None = Unit {0}
-  IsAskedIfAny old new = ⊥
-
   module _ (closed : S → Type 0) where
     -- the keeper that a time ends with is given up: it is closed as it is, or as it was asked
     pub record IsGivenUp (last : S) : Type 0 where

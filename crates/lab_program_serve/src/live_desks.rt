@@ -1,7 +1,8 @@
 //! A desk over a keeper that is opened anew once it doesn't answer.
 
 ghost use Rattle.std.specs.Prelude.{◌≡◌, true, false, ℕ, List, [], Some, None, option_map, IfErr, IfOk, IfSome};
-ghost use Rattle.lab_program_serve.specs.Times.{IsAsked, IsAskedIfAny, IsMended, IsNext, IsUnmended};
+ghost use Rattle.lab_program_serve.specs.Times.{IsAsked, IsMended, IsNext, IsUnmended};
+ghost use Rattle.lab_program_serve.specs.Private.Times.{IsAskedIfAny};
 ghost use Rattle.lab_program_serve.specs.Visits.{GoesOn};
 
 use crate::openings::Opener;

@@ -3,7 +3,8 @@
 ghost use Rattle.std.specs.Prelude.{◌≡◌, List, [], IfOk, IfErr};
 ghost use Rattle.lab_records_keeper.specs.Worlds.{Passes};
 ghost use Rattle.lab_desk_events.specs.Keeping.{GivenWithin};
-ghost use Rattle.lab_program_serve.specs.Rehearsals.{Forwards, IsFounded, IsServedAt, IsUnfounded, OfBody, card_request, rehearsal_tick};
+ghost use Rattle.lab_program_serve.specs.Rehearsals.{Forwards, IsServedAt, IsUnfounded, OfBody, card_request, rehearsal_tick};
+ghost use Rattle.lab_program_serve.specs.Private.Rehearsals.{IsFounded};
 ghost use Rattle.lab_program_serve.specs.Texts.{IsPrinted};
 ghost use Rattle.lab_program_serve.specs.Visits.{AreVisits, IsStill, Visit};
 

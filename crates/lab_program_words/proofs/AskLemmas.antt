@@ -3,7 +3,8 @@ use Rattle.std.proofs.Common.{◌≡◌, ◌∙◌, ◌≤◌, ℕ, List, IsTrue
 use Rattle.clap.specs.Words.{Row, subcommand_of}
 use Rattle.lab_forms_texts.specs.Ordinals.{is_ordinal}
 use Rattle.lab_program_app.specs.Apps.{labdesk_app, most_connections}
-use Rattle.lab_program_words.specs.Tasks.{Asked, AsksTask, GivesArguments, IsGiven, IsGivenIn, IsTask, name_of, founds, serves, copies, migrates, checks, replays, rehearses, errand_of, errand_called, errand_named, founding, serving, copying, migrating, checking, replaying, rehearsing}
+use Rattle.lab_program_words.specs.Tasks.{Asked, AsksTask, GivesArguments, IsGiven, IsGivenIn, name_of, founds, serves, copies, migrates, checks, replays, rehearses, errand_of, errand_called, errand_named, founding, serving, copying, migrating, checking, replaying, rehearsing}
+use Rattle.lab_program_words.specs.Private.Tasks.{IsTask}
 use Rattle.lab_program_words.specs.declared.tasks.Task.{Task}
 use Rattle.lab_program_words.specs.declared.tasks.Task.TheVariants.{Found, Serve, Copy, Migrate, Check, Replay, Rehearse}
 

@@ -142,15 +142,3 @@ IsGiven rows (Rehearse lab seconds) =
 abbrev pub IsGivenIn : Option (List ℕ × List Row) → Task → Type 0
 IsGivenIn None task = Unit {0}
 IsGivenIn (Some named) task = IsGiven named.1 task
-
--- the task is the one that is asked for
-abbrev pub IsTask : Task → Asked → Type 0
-IsTask (Found file lab) asked = asked ≡ founds file.now lab.now
-IsTask (Serve file port count) asked = asked ≡ serves file.now port count
-IsTask (Copy file lab from to) asked = (asked ≡ copies file.now lab.now from to)
-    × IsTrue (is_ordinal from) × IsTrue (is_ordinal to)
-IsTask (Migrate old new) asked = asked ≡ migrates old.now new.now
-IsTask Check asked = asked ≡ checks
-IsTask Replay asked = asked ≡ replays
-IsTask (Rehearse lab seconds) asked = (moment : ℕ) × (seconds ≡ pos moment)
-    × IsTrue (is_moment moment) × (asked ≡ rehearses lab.now moment)

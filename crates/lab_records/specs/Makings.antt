@@ -1,24 +1,20 @@
 -- Where something is made, so that memory may run out: the note that a request came by a session,
 -- where it isn't noted already; a session that a command passes with; the card, and what an opening
 -- makes, or what its failed password changes. A refusal that notes nothing is told as it is.
-use Rattle.std.specs.Prelude.{◌⊎◌, ℕ, Bool, true, false, not, nat_lt, [], if◌then◌else◌, IsTrue}
+use Rattle.std.specs.Prelude.{ℕ, Bool, true, false, not, nat_lt, [], if◌then◌else◌}
 use Rattle.lab_forms_texts.specs.declared.tick.Tick.{Tick}
-use Rattle.lab_people_access.specs.declared.persons.Person.{Person}
-use Rattle.lab_people_access.specs.declared.sessions.Session.{Session}
 use Rattle.lab_people_access.specs.Openings.{opening}
 use Rattle.lab_records_kept.specs.declared.needs.Slice.{Slice}
 use Rattle.lab_records_machine.specs.declared.commands.Command.{Command}
 use Rattle.lab_records_machine.specs.declared.commands.Command.TheVariants.{Card, Open, In}
-use Rattle.lab_records_machine.specs.declared.commands.SessionCommand.{SessionCommand}
 use Rattle.lab_records_machine.specs.declared.passages.Passage.{Passage}
 use Rattle.lab_records_machine.specs.declared.passages.Passage.TheVariants.{Stranger, Barred, Passes}
-use Rattle.lab_records_machine.specs.Makings.{makes}
 use Rattle.lab_records_machine.specs.Policy.{rule_of}
 use Rattle.lab_records_machine.specs.Machine.{passage}
 use Rattle.lab_records_machine.specs.declared.done.Done.{Done}
 use Rattle.lab_records_machine.specs.declared.done.Done.TheVariants.{Refused, Failed, Read, Made}
-use Rattle.lab_records_machine.specs.Done.{opened_done, done_of}
-use Rattle.lab_records_laws.specs.Deciding.{is_noted, IsWritten}
+use Rattle.lab_records_machine.specs.Done.{opened_done}
+use Rattle.lab_records_laws.specs.Deciding.{is_noted}
 
 abbrev pub is_refusal : Done → Bool
 is_refusal (Refused refusal) = true
@@ -46,10 +42,3 @@ is_made_by slice tick (In command) =
 abbrev pub is_made : Slice → Tick → Command → Bool
 is_made slice tick command =
     if nat_lt tick.moment slice.last then false else is_made_by slice tick command
-
--- a command in a session, but for its note: it makes something itself, or something is written of
--- what it comes to
-abbrev pub MakesInSession : Slice → Tick → Session → Person → SessionCommand → Type 0
-MakesInSession slice tick session caller command =
-    IsTrue (makes slice tick session caller command)
-    ⊎ IsWritten slice.counts.trail (done_of slice tick session caller command)

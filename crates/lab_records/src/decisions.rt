@@ -6,7 +6,8 @@ ghost use Rattle.lab_records_machine.specs.Done.{done_of};
 ghost use Rattle.lab_records_machine.specs.Machine.{passage};
 ghost use Rattle.lab_records_machine.specs.Policy.{rule_of};
 ghost use Rattle.lab_records_laws.specs.Deciding.{outcome, end_on, is_noted, noted_end, decided_in, decided_by, decided};
-ghost use Rattle.lab_records.specs.Makings.{is_made_in, is_made_by, is_made, MakesInSession};
+ghost use Rattle.lab_records.specs.Makings.{is_made_in, is_made_by, is_made};
+ghost use Rattle.lab_records.specs.Private.Makings.{MakesInSession};
 
 use crate::{done_of, opening_done};
 use lab_forms_texts::{Moment, OutOfMemory, PersonCode, Series, Tick};

@@ -11,7 +11,8 @@ use Rattle.lab_records_kept.specs.declared.records.Version.{Version}
 use Rattle.lab_records_kept.proofs.KnownDefaults.{bare_entry}
 use Rattle.lab_copy_rows.specs.declared.lines.Line.TheVariants as line
 use Rattle.lab_records_copies.specs.declared.orders.CopyOrder.{CopyOrder}
-use Rattle.lab_records_copies.specs.CopyLines.{copy_rows, counts_in, entry_line, fields_of_line, record_line}
+use Rattle.lab_records_copies.specs.CopyLines.{copy_rows, entry_line, fields_of_line, record_line}
+use Rattle.lab_records_copies.specs.Private.CopyLines.{counts_in}
 
 -- hal asks for the records from 1 to 5
 abbrev asked : CopyOrder

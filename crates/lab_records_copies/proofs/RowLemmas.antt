@@ -14,7 +14,8 @@ use Rattle.lab_copy_rows.specs.declared.lines.Counts.{Counts}
 use Rattle.lab_copy_rows.specs.declared.lines.Line.{Line}
 use Rattle.lab_copy_rows.specs.declared.lines.Line.TheVariants as line
 use Rattle.lab_records_copies.specs.declared.orders.CopyOrder.{CopyOrder}
-use Rattle.lab_records_copies.specs.CopyLines.{copy_line, version_line, entry_line, signature_line, end_line, fields_of_line, rows_of_lines, version_lines, body_lines, counts_in, copy_rows}
+use Rattle.lab_records_copies.specs.CopyLines.{copy_line, version_line, entry_line, signature_line, end_line, fields_of_line, rows_of_lines, version_lines, body_lines, copy_rows}
+use Rattle.lab_records_copies.specs.Private.CopyLines.{counts_in}
 
 -- ---- a loop that puts one row behind the others
 

@@ -1,7 +1,7 @@
 -- The copy of a laboratory's records (21 CFR 11.10(b): "accurate and complete copies of records in
 -- both human readable and electronic form suitable for inspection, review, and copying"): the lines
 -- that stand in it, in order. What is in the row of a line is said in lab_copy_rows.
-use Rattle.std.specs.Prelude.{ℕ, Bool, List, [], ◌∷◌, ◌++◌, map, filter, length, codes, bytes_eq, Option, option_map, unwrap_or}
+use Rattle.std.specs.Prelude.{ℕ, List, [], ◌∷◌, ◌++◌, map, Option, option_map, unwrap_or}
 use Rattle.std.specs.List.{flat_map}
 use Rattle.lab_seal_versions.specs.declared.rows.EntryRow.{EntryRow}
 use Rattle.lab_seal_versions.specs.declared.states.State.{State}
@@ -14,7 +14,7 @@ use Rattle.lab_records_kept.specs.Digests.{digest_of, sealed_parts}
 use Rattle.lab_records_kept.specs.Lookups.{records_within}
 use Rattle.lab_records_kept.specs.Values.{version_state}
 use Rattle.lab_copy_rows.specs.Copies.{counts_of}
-use Rattle.lab_copy_rows.specs.Rows.{fields_in, header_row, kind_in, columns_of_line}
+use Rattle.lab_copy_rows.specs.Rows.{fields_in, header_row, columns_of_line}
 use Rattle.lab_copy_rows.specs.declared.lines.Edition.TheVariants.{Two}
 use Rattle.lab_copy_rows.specs.declared.lines.Counts.{Counts}
 use Rattle.lab_copy_rows.specs.declared.lines.CopyLine.{CopyLine}
@@ -128,21 +128,6 @@ fields_of_line line = fields_in (columns_of_line line)
 
 abbrev pub rows_of_lines : List Line → List (List (List ℕ))
 rows_of_lines lines = map fields_of_line lines
-
--- how many rows are of a kind, and of each kind
-abbrev pub has_kind : List ℕ → List (List ℕ) → Bool
-has_kind kind row = bytes_eq (kind_in row) kind
-
-abbrev pub count_of : List ℕ → List (List (List ℕ)) → ℕ
-count_of kind rows = length (filter (has_kind kind) rows)
-
-abbrev pub counts_in : List (List (List ℕ)) → Counts
-counts_in rows = record {
-  records = count_of (codes "record") rows;
-  versions = count_of (codes "version") rows;
-  entries = count_of (codes "entry") rows;
-  signatures = count_of (codes "signature") rows;
-}
 
 -- the rows of a copy, the header first
 abbrev pub copy_rows : List ℕ → List ℕ → CopyOrder → List Record → List (List (List ℕ))

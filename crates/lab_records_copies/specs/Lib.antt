@@ -1,2 +1,3 @@
 pub mod CopyLines
 pub mod Soundness
+pub mod Private

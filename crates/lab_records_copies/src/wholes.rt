@@ -1,6 +1,7 @@
 //! The rows of whole copies.
 ghost use Rattle.std.specs.Prelude.{◌≡◌, ◌++◌, IfOk, OnOk};
-ghost use Rattle.lab_records_copies.specs.CopyLines.{body_lines, copy_line, copy_rows, count_of, counts_in, end_line, record_lines, rows_of_lines};
+ghost use Rattle.lab_records_copies.specs.CopyLines.{body_lines, copy_line, copy_rows, end_line, record_lines, rows_of_lines};
+ghost use Rattle.lab_records_copies.specs.Private.CopyLines.{count_of, counts_in};
 ghost use Rattle.lab_copy_rows.specs.Rows.{fields_in, copy_row, end_row};
 
 use crate::CopyOrder;

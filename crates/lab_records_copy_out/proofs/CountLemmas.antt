@@ -8,7 +8,8 @@ use Rattle.lab_records_kept.specs.Lookups.{is_within, records_within}
 use Rattle.lab_copy_rows.specs.Copies.{counts_of}
 use Rattle.lab_copy_rows.specs.declared.lines.Counts.{Counts}
 use Rattle.lab_copy_rows.specs.Outs.{counted, counted_all, counted_if, no_counts}
-use Rattle.lab_records_copies.specs.CopyLines.{body_lines, count_of, counts_in, fields_of_line, has_kind, record_lines}
+use Rattle.lab_records_copies.specs.CopyLines.{body_lines, fields_of_line, record_lines}
+use Rattle.lab_records_copies.specs.Private.CopyLines.{count_of, counts_in, has_kind}
 use Rattle.lab_records_copies.proofs.RowLemmas.{counted as counted_lines}
 use Rattle.lab_records_copy_out.specs.CopyTexts.{record_rows}
 

@@ -12,7 +12,8 @@ use Rattle.lab_records_keeper.specs.Worlds.{Meaning}
 use Rattle.lab_copy_rows.specs.declared.lines.CopyLine.{CopyLine}
 use Rattle.lab_records_copies.specs.declared.orders.CopyOrder.{CopyOrder}
 use Rattle.lab_records_copies.specs.CopyLines.{body_lines, copy_line}
-use Rattle.lab_records_copy_out.specs.CopyTexts.{IsWalkable, copy_text, last_walked, numbers_between, record_need, text_under, walked}
+use Rattle.lab_records_copy_out.specs.CopyTexts.{IsWalkable, copy_text, numbers_between, record_need, walked}
+use Rattle.lab_records_copy_out.specs.Private.CopyTexts.{last_walked, text_under}
 use Rattle.lab_records_copy_out.proofs.NumberLemmas.{walked_range}
 use Rattle.lab_records_copy_out.proofs.CountLemmas.{few_within}
 

@@ -23,7 +23,8 @@ use Rattle.lab_records_kept.specs.declared.records.Version.{Version}
 use Rattle.lab_records_kept.proofs.KnownDefaults.{bare_entry, bare_form, bare_lab, bare_record, bare_signature, bare_version}
 use Rattle.lab_copy_rows.specs.Outs.{counted_all, no_counts}
 use Rattle.lab_records_copy_out.specs.Faults.{CopyFaultFits, copy_fault_number, copy_fault_word}
-use Rattle.lab_records_copy_out.specs.CopyTexts.{IsWalkable, copy_text, desk_order, last_walked, numbers_between, walked}
+use Rattle.lab_records_copy_out.specs.CopyTexts.{IsWalkable, copy_text, desk_order, numbers_between, walked}
+use Rattle.lab_records_copy_out.specs.Private.CopyTexts.{last_walked}
 use Rattle.lab_records_copy_out.specs.declared.faults.CopyOutFault.TheVariants.{NoSuchLab, Storage, Memory, Write}
 
 -- ---- two records

@@ -7,7 +7,8 @@ use Rattle.lab_records_kept.specs.declared.records.Record.{Record}
 use Rattle.lab_records_kept.specs.Limits.{AreNumberedAfter, AreNumbered}
 use Rattle.lab_records_kept.specs.Lookups.{record_of}
 use Rattle.lab_records_kept.specs.Lookups.{is_within, records_within}
-use Rattle.lab_records_copy_out.specs.CopyTexts.{last_walked, numbers_between, record_at, walked}
+use Rattle.lab_records_copy_out.specs.Private.CopyTexts.{last_walked}
+use Rattle.lab_records_copy_out.specs.CopyTexts.{numbers_between, record_at, walked}
 
 abbrev Numbered : ℕ → List Record → Type 0
 Numbered before records = AreNumberedAfter (λ (kept : Record). kept.number) before records

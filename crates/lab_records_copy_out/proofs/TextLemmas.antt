@@ -15,7 +15,8 @@ use Rattle.lab_copy_rows.specs.declared.lines.Line.TheVariants as line
 use Rattle.lab_copy_rows.specs.Outs.{AppendsFront, start_text}
 use Rattle.lab_copy_rows.proofs.SendLemmas.{front_went, second_went}
 use Rattle.lab_records_copies.specs.CopyLines.{body_lines, end_line, fields_of_line, record_lines, rows_of_lines}
-use Rattle.lab_records_copy_out.specs.CopyTexts.{numbers_between, record_at, record_rows, text_under, walked}
+use Rattle.lab_records_copy_out.specs.CopyTexts.{numbers_between, record_at, record_rows, walked}
+use Rattle.lab_records_copy_out.specs.Private.CopyTexts.{text_under}
 use Rattle.lab_records_copy_out.proofs.NumberLemmas.{later_walked, next_walked}
 
 -- ---- the rows of more records

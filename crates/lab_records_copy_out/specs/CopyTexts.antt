@@ -2,7 +2,7 @@
 -- and complete copies of records in both human readable and electronic form suitable for
 -- inspection, review, and copying by the agency"): its text, the walk over the records, and what of
 -- a laboratory the walk relies on.
-use Rattle.std.specs.Prelude.{ℕ, zero, suc, ◌+◌, ◌-◌, ◌<◌, ◌^◌, min, List, [], ◌∷◌, ◌++◌, length, Option, Some, None, IfSome, option_to_list}
+use Rattle.std.specs.Prelude.{ℕ, zero, suc, ◌+◌, ◌-◌, ◌<◌, ◌^◌, List, [], ◌++◌, length, Option, Some, None, IfSome, option_to_list}
 use Rattle.lab_records_kept.specs.declared.labs.Lab.{Lab}
 use Rattle.lab_records_kept.specs.declared.needs.Need.{Need}
 use Rattle.lab_records_kept.specs.declared.needs.RecordWanted.{RecordWanted}
@@ -11,13 +11,9 @@ use Rattle.lab_records_kept.specs.Dual.{IsDual}
 use Rattle.lab_records_kept.specs.Limits.{AreNumbered, IsWithin}
 use Rattle.lab_records_kept.specs.Lookups.{record_of}
 use Rattle.lab_records_keeper.specs.Worlds.{World}
-use Rattle.lab_copy_rows.specs.Copies.{counts_of}
 use Rattle.lab_copy_rows.specs.Csv.{csv_text}
-use Rattle.lab_copy_rows.specs.Rows.{fields_in, header_row}
-use Rattle.lab_copy_rows.specs.declared.lines.CopyLine.{CopyLine}
-use Rattle.lab_copy_rows.specs.declared.lines.Line.TheVariants as line
 use Rattle.lab_records_copies.specs.declared.orders.CopyOrder.{CopyOrder}
-use Rattle.lab_records_copies.specs.CopyLines.{body_lines, copy_of, end_line, rows_of_lines}
+use Rattle.lab_records_copies.specs.CopyLines.{body_lines, copy_of, rows_of_lines}
 
 -- ---- the text
 
@@ -33,11 +29,6 @@ copy_text order (Some lab) = csv_text (copy_of lab order)
 -- the rows of records, and the text of a copy that has these records under its first line
 abbrev pub record_rows : List ℕ → List Record → List (List (List ℕ))
 record_rows lab records = rows_of_lines (body_lines lab records)
-
-abbrev pub text_under : CopyLine → List Record → List ℕ
-text_under first records =
-    csv_text (fields_in header_row ∷ rows_of_lines (line.Copy first ∷ body_lines first.lab records
-    ++ line.End (end_line first.lab (counts_of (body_lines first.lab records))) ∷ []))
 
 -- ---- the walk
 
@@ -61,11 +52,6 @@ abbrev pub walked : Option Lab → ℕ → ℕ → List Record
 walked lab from zero = []
 walked lab from (suc count) =
     walked lab from count ++ option_to_list (record_at (from + count) lab)
-
--- the number of the last record of a range, where so many are kept, and how many numbers there are
--- from one up to another
-abbrev pub last_walked : ℕ → ℕ → ℕ
-last_walked to kept = min to kept
 
 abbrev pub numbers_between : ℕ → ℕ → ℕ
 numbers_between from last = last + 1 - from

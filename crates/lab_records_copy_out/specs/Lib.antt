@@ -4,3 +4,4 @@ pub mod Ranges
 pub mod Resting
 pub mod Faults
 pub mod Legible
+pub mod Private

@@ -4,7 +4,6 @@ use Rattle.std.specs.Prelude.{ℕ, List, Some, None}
 use Rattle.lab_records_kept.specs.declared.labs.Lab.{Lab}
 use Rattle.lab_records_kept.specs.declared.needs.ListWanted.TheVariants.{Records}
 use Rattle.lab_records_kept.specs.declared.needs.Need.{Need}
-use Rattle.lab_records_kept.specs.declared.needs.Slice.{Slice}
 use Rattle.lab_records_kept.specs.Lookups.{records_within}
 use Rattle.lab_records_copy_out.specs.CopyTexts.{record_rows}
 
@@ -17,10 +16,6 @@ range_need from to = record {
   filed = None;
   list = Some (Records from to);
 }
-
--- the rows of the records in a part
-abbrev pub rows_in : Slice → List (List (List ℕ))
-rows_in slice = record_rows slice.code slice.records
 
 -- the rows of a laboratory's records from a number to a number
 abbrev pub body_of : ℕ → ℕ → Lab → List (List (List ℕ))

@@ -8,7 +8,8 @@ ghost use Rattle.lab_records_copy_out.specs.Causes.{RefusesCopy};
 ghost use Rattle.lab_records_copy_out.specs.Faults.{CopyFaultFits, OnTold};
 ghost use Rattle.lab_records_copy_out.specs.Legible.{CanCopy, SendsSound};
 ghost use Rattle.lab_records_copy_out.specs.Resting.{IsOnlyRead};
-ghost use Rattle.lab_records_copy_out.specs.CopyTexts.{AreCountable, CanWalk, copy_text, desk_order, text_under, walked_to};
+ghost use Rattle.lab_records_copy_out.specs.CopyTexts.{AreCountable, CanWalk, copy_text, desk_order, walked_to};
+ghost use Rattle.lab_records_copy_out.specs.Private.CopyTexts.{text_under};
 
 use crate::CopyOutFault;
 use crate::givers::RecordGiver;

@@ -2,7 +2,8 @@
 
 ghost use Rattle.std.specs.Prelude.{◌≡◌, IfOk, IfErr, OnOk, option_map};
 ghost use Rattle.lab_records_keeper.specs.Worlds.{Given, KeeperFaultFits, Lives, Shuts};
-ghost use Rattle.lab_records_copy_out.specs.Ranges.{body_of, range_need, rows_in};
+ghost use Rattle.lab_records_copy_out.specs.Ranges.{body_of, range_need};
+ghost use Rattle.lab_records_copy_out.specs.Private.Ranges.{rows_in};
 ghost use Rattle.lab_records_copy_out.specs.Resting.{IsOnlyRead};
 
 use lab_copy_rows::{CopyRow, OutOfMemory};

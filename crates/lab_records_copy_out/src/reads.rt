@@ -7,7 +7,8 @@ ghost use Rattle.lab_records_kept.specs.Parts.{part_of};
 ghost use Rattle.lab_records_keeper.specs.Worlds.{Given, KeeperFaultFits, Lives, Shuts};
 ghost use Rattle.lab_forms_texts.specs.Ordinals.{last_ordinal, ordinal_of};
 ghost use Rattle.lab_records_copy_out.specs.Resting.{IsOnlyRead};
-ghost use Rattle.lab_records_copy_out.specs.CopyTexts.{desk_order, last_walked, record_at, record_need};
+ghost use Rattle.lab_records_copy_out.specs.CopyTexts.{desk_order, record_at, record_need};
+ghost use Rattle.lab_records_copy_out.specs.Private.CopyTexts.{last_walked};
 
 use lab_copy_rows::{CopyLine, Edition};
 use lab_records_keeper::{Keeper, KeeperFault};

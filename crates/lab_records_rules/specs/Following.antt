@@ -1,7 +1,7 @@
 -- What a call answers follows a rule: the value, or the refusal, that the rule gives. That memory
 -- ran out is an answer of its own, and only where something is made: a refusal that is found before
 -- hides behind nothing.
-use Rattle.std.specs.Prelude.{◌≡◌, Bool, IsTrue, Option, Some, None, Result, Ok, Err}
+use Rattle.std.specs.Prelude.{◌≡◌, Bool, IsTrue, Result, Ok, Err}
 use Rattle.std.specs.Result.{is_ok}
 use Rattle.lab_records_rules.specs.declared.refusals.Refusal.{Refusal}
 use Rattle.lab_forms_texts.specs.declared.refusals.Fault.{Fault}
@@ -16,10 +16,3 @@ FollowsWhere made rule (Err Memory) = IsTrue made
 -- memory may run out only where the rule gives a value: each of its refusals is told as it is
 abbrev pub Follows : {A : Type 0} → Result A Refusal → Result A (Fault Refusal) → Type 0
 Follows rule result = FollowsWhere (is_ok rule) rule result
-
--- something is read as the value itself where nothing is wrong with it, and is refused otherwise;
--- memory may run out only where something is made
-abbrev pub IsReadWhere : {A : Type 0} → Bool → Option Refusal → A → Result A (Fault Refusal) → Type 0
-IsReadWhere made wrong value (Ok read) = (wrong ≡ None) × (read ≡ value)
-IsReadWhere made wrong value (Err (Refused refusal)) = wrong ≡ Some refusal
-IsReadWhere made wrong value (Err Memory) = IsTrue made

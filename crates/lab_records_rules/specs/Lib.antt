@@ -4,3 +4,4 @@ pub mod SigningPolicy
 pub mod Making
 pub mod Reading
 pub mod Latest
+pub mod Private

@@ -11,7 +11,7 @@ use Rattle.lab_records_rules.specs.declared.items.Item.{Item}
 use Rattle.lab_records_rules.specs.declared.refusals.Refusal.{Refusal}
 use Rattle.lab_forms_texts.specs.declared.refusals.Fault.{Fault}
 use Rattle.lab_forms_texts.specs.declared.refusals.Fault.TheVariants.{Refused, Memory}
-use Rattle.lab_records_rules.specs.Following.{IsReadWhere}
+use Rattle.lab_records_rules.specs.Private.Following.{IsReadWhere}
 use Rattle.lab_records_versions.specs.Entering.{altered_refusal, first_altered_refusal, amending_by, amendment_made, next_version}
 
 or_next : (one other next : Option Refusal)

@@ -3,7 +3,8 @@ ghost use Rattle.std.specs.Prelude.{◌≡◌, ◌+◌, ◌<◌, ◌==◌, ℕ, 
 ghost use Rattle.lab_records_rules.specs.Latest.{noted};
 ghost use Rattle.lab_records_kept.specs.Limits.{version_limit};
 ghost use Rattle.lab_records_kept.specs.Values.{all_rows, value_of};
-ghost use Rattle.lab_records_rules.specs.Following.{Follows, FollowsWhere, IsReadWhere};
+ghost use Rattle.lab_records_rules.specs.Following.{Follows, FollowsWhere};
+ghost use Rattle.lab_records_rules.specs.Private.Following.{IsReadWhere};
 ghost use Rattle.lab_records_versions.specs.Entering.{has_settled, is_same_value, item_refusal, altered_refusal, first_altered_refusal, entered_row, next_origin, opened_version, amendment_made, amending_by, is_table_made, amending};
 
 use crate::entering::read_item;

@@ -5,7 +5,8 @@ ghost use Rattle.std.specs.Option.{option_map_or};
 ghost use Rattle.lab_records_kept.specs.Changes.{with_row};
 ghost use Rattle.lab_records_kept.specs.Digests.{digest_of};
 ghost use Rattle.lab_records_kept.specs.Values.{has_key};
-ghost use Rattle.lab_records_rules.specs.Following.{Follows, IsReadWhere};
+ghost use Rattle.lab_records_rules.specs.Following.{Follows};
+ghost use Rattle.lab_records_rules.specs.Private.Following.{IsReadWhere};
 ghost use Rattle.lab_records_versions.specs.Entering.{is_open, has_value, item_refusal, entry_made, entering_last, entering};
 
 use lab_forms::FormFault;

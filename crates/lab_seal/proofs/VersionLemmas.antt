@@ -11,7 +11,8 @@ use Rattle.lab_forms_texts.specs.Names.{is_lab_code, is_person_code, is_key, is_
 use Rattle.lab_seal_versions.specs.Origins.{first_number, AmendsUnlessFirst}
 use Rattle.lab_seal_versions.specs.Versions.{item, format_word, approval_text, reason_text, row_text, heading_text, subject_text, origin_text, opening_text, front_text, version_text, IsAmendment, IsRow, IsFrontAdmitted, IsVersion, IsNoVersion, IsSomeVersion, OneSpelling}
 use Rattle.lab_seal.specs.Reading.{first_as, ◌>>=◌}
-use Rattle.lab_seal.specs.Parts.{first_heading, first_format, first_subject, first_no_amendment, first_amendment, first_origin, first_opening, first_front, first_row, first_rows, HeadingValue, SubjectValue, OpeningValue, FrontValue, version_parts_of, AreAllRows}
+use Rattle.lab_seal.specs.Parts.{first_heading, first_format, first_subject, first_no_amendment, first_amendment, first_origin, first_opening, first_front, first_row, first_rows, HeadingValue, SubjectValue, OpeningValue, FrontValue}
+use Rattle.lab_seal.specs.Private.Parts.{version_parts_of, AreAllRows}
 use Rattle.lab_seal.specs.Faults.{TextFaultFits}
 use Rattle.lab_seal.specs.declared.faults.BadText.{BadText}
 use Rattle.lab_forms_texts.specs.declared.refusals.Fault.{Fault}

@@ -3,7 +3,8 @@ use Rattle.std.proofs.Common.{◌≡◌, ◌==◌, true, false, ℕ, List, [], �
 use Rattle.std.specs.Prelude.{option_map}
 use Rattle.std.proofs.lemmas.Bool.Decides.{nat_tests}
 use Rattle.lab_seal_versions.specs.declared.rows.EntryRow.{EntryRow}
-use Rattle.lab_seal.specs.Parts.{first_rows, AreAllRows}
+use Rattle.lab_seal.specs.Parts.{first_rows}
+use Rattle.lab_seal.specs.Private.Parts.{AreAllRows}
 use Rattle.lab_seal.proofs.RowLemmas.{behind_rows, IsRowsSoFar}
 use Rattle.lab_seal.specs.Faults.{TextFaultFits}
 use Rattle.lab_seal.specs.declared.faults.BadText.{BadText}

@@ -1,7 +1,7 @@
 -- The reading of a version's text, part by part: what stands at the front of a text, with the rest
 -- of the text. No public clause names these steps; they are proved to read exactly the texts of
 -- `version_text`.
-use Rattle.std.specs.Prelude.{◌≡◌, ℕ, zero, suc, ◌==◌, Bool, true, false, if◌then◌else◌, List, [], ◌∷◌, codes, Option, Some, None, option_map}
+use Rattle.std.specs.Prelude.{ℕ, zero, suc, ◌==◌, Bool, true, false, if◌then◌else◌, List, [], ◌∷◌, codes, Option, Some, None, option_map}
 use Rattle.lab_forms_texts.specs.Names.{is_lab_code, is_person_code, is_key, is_name, is_note, is_unit}
 use Rattle.lab_seal_hashes.specs.Digits.{bytes_of_digits}
 use Rattle.lab_seal_versions.specs.Origins.{first_number}
@@ -15,7 +15,6 @@ use Rattle.lab_seal.specs.declared.parts.Row.{Row}
 use Rattle.lab_seal_versions.specs.declared.rows.EntryRow.{EntryRow}
 use Rattle.lab_seal_versions.specs.declared.versions.Format.{Format}
 use Rattle.lab_seal_versions.specs.declared.versions.Format.TheVariants.{One, Two}
-use Rattle.lab_seal_versions.specs.declared.versions.VersionParts.{VersionParts}
 use Rattle.lab_seal.specs.Reading.{◌>>=◌, number_written, first_as, text_where, this_word, which_word, ordinal_in, reason_in, moment_in}
 
 -- which version it is: whether its format is the newer one, the laboratory, the record's number and
@@ -132,10 +131,6 @@ first_rows (suc n) text = do
   rows ← first_rows n row.1
   Some (row.0 ∷ rows.0, rows.1)
 
--- so many rows are the whole text
-abbrev pub AreAllRows : ℕ → List ℕ → Type 0
-AreAllRows count text = option_map (λ found. found.1) (first_rows count text) ≡ Some []
-
 -- ---- what the code reads, as these values
 
 abbrev pub heading_of : Heading → HeadingValue
@@ -170,19 +165,4 @@ entry_row_from row = record {
   person = row.person.now;
   moment = row.moment;
   reason = option_map (λ reason. reason.now) row.reason;
-}
-
--- the version that has this front and these rows
-abbrev pub version_parts_of : FrontValue → List EntryRow → VersionParts
-version_parts_of front rows = record {
-  format = front.subject.2;
-  lab = front.heading.1;
-  record_number = front.heading.2;
-  origin = record { number = front.heading.3; amendment = front.amendment };
-  form = front.subject.0;
-  form_version = front.subject.1;
-  sample = front.subject.3;
-  opener = front.opening.0;
-  opened = front.opening.1;
-  rows = rows;
 }

@@ -7,7 +7,8 @@ ghost use Rattle.lab_forms_texts.specs.Names.{is_lab_code, is_key, is_name, is_p
 ghost use Rattle.lab_forms_texts.specs.Ordinals.{is_ordinal};
 ghost use Rattle.lab_seal.specs.Faults.{TextFaultFits};
 ghost use Rattle.lab_seal_versions.specs.Versions.{version_text, IsRow, IsOrigin, IsFrontAdmitted, IsVersion, IsNoVersion, IsSomeVersion, OneSpelling};
-ghost use Rattle.lab_seal.specs.Parts.{first_rows, amends_of, front_of, entry_row_from, version_parts_of, AreAllRows};
+ghost use Rattle.lab_seal.specs.Parts.{first_rows, amends_of, front_of, entry_row_from};
+ghost use Rattle.lab_seal.specs.Private.Parts.{version_parts_of, AreAllRows};
 
 use crate::parts::{Front, Reason, Row, after_rows, first_front, first_row};
 use crate::{BadText, TextFault, fields};

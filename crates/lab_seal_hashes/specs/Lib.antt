@@ -1,6 +1,6 @@
 pub mod Digits
 pub mod Hmac
-pub mod Keyed
 pub mod Pbkdf2
 pub mod Verifiers
 pub mod Words
+pub mod Private

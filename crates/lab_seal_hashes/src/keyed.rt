@@ -2,7 +2,7 @@
 ghost use Rattle.std.specs.Prelude.{◌≡◌, ◌≤◌, ◌++◌, ℕ, List, length};
 ghost use Rattle.sha2.specs.Hashers.{Holds256};
 ghost use Rattle.lab_seal_hashes.specs.Hmac.{zero_filled, block_key, xor_each, inner_block, hmac_sha256};
-ghost use Rattle.lab_seal_hashes.specs.Keyed.{IsKeyed};
+ghost use Rattle.lab_seal_hashes.specs.Private.Keyed.{IsKeyed};
 
 use sha2::{Digest, Sha256};
 

@@ -3,9 +3,8 @@
 -- tables that those before it made. Else the disk had a fault in the call, the connection was shut
 -- before it, or its steps have a limit; or the call is given what no store takes, which is named
 -- beside.
-use Rattle.std.specs.Prelude.{◌≡◌, ◌≢◌, ◌⊎◌, ℕ, List, [], find, None, Some, Result, IfErr, IsFalse, IsTrue}
+use Rattle.std.specs.Prelude.{◌≡◌, ◌≢◌, ◌⊎◌, ℕ, List, [], find, None, Some, Result, IfErr, IsTrue}
 use Rattle.sqlite_trees.specs.declared.store.Store.{Ghosts}
-use Rattle.sqlite.specs.declared.error.Error.{Error}
 use Rattle.sqlite.specs.Held.{Held, state}
 use Rattle.sqlite.specs.State.{HasCleanDisk}
 use Rattle.lab_forms_texts.specs.declared.refusals.Fault.{Fault}
@@ -20,7 +19,6 @@ use Rattle.lab_store_tables.specs.Meaning.{has_code}
 use Rattle.lab_store_tables.specs.Ready.{IsReady, tables_of}
 use Rattle.lab_store_read.specs.Causes.{HasFirst, IsCaused}
 use Rattle.lab_store_read.specs.Cells.{storage}
-use Rattle.lab_store_read.specs.Faults.{is_out_of_memory}
 use Rattle.lab_store_read_records.specs.Readable.{HasLab}
 use Rattle.lab_store_read_records.specs.Shown.{labs_shown}
 use Rattle.lab_store_load.specs.Counts.{lab_id_of}
@@ -47,19 +45,6 @@ abbrev pub CommitHasItsCause : {S T E : Type 0} → Ghosts S → (E → Type 0) 
     → (Tables → Type 0) → Held S → Held S → Result T E → Type 0
 CommitHasItsCause g IsTold Readable Refused old new result =
     CommitHasItsCauseTrying Anything g IsTold Readable Refused old new result
-
--- a call that reads nothing before its transaction: it returns an error, which isn't want of memory,
--- for no other cause
-abbrev pub TransactionHasItsCauseTrying : Tries → {S T : Type 0} → Ghosts S → Type 0 → Held S
-    → Held S → Result T Error → Type 0
-TransactionHasItsCauseTrying tries g Beside old new result =
-    CommitHasItsCauseTrying tries g (λ e. IsFalse (is_out_of_memory e)) (λ t. Unit {0})
-    (λ t. Beside) old new result
-
-abbrev pub TransactionHasItsCause : {S T : Type 0} → Ghosts S → Type 0 → Held S → Held S
-    → Result T Error → Type 0
-TransactionHasItsCause g Beside old new result =
-    TransactionHasItsCauseTrying Anything g Beside old new result
 
 -- changes are refused where no laboratory has the code, or for a number that no column holds
 abbrev pub RefusesChanges : List ℕ → List Change → Tables → Type 0

@@ -5,3 +5,4 @@ pub mod Founding
 pub mod Openings
 pub mod StoreLaws
 pub mod StoreWorlds
+pub mod Private

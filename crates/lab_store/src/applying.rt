@@ -10,7 +10,8 @@ ghost use Rattle.lab_store_tables.specs.Steps.{StepsBy, AreMadeIfAny};
 ghost use Rattle.lab_store_write.specs.Calls.{FailsForTrying, Steps};
 ghost use Rattle.lab_store_write_changes.specs.Causes.{OneIsTooMuch};
 ghost use Rattle.lab_store_write_changes.specs.Tried.{TriesAll};
-ghost use Rattle.lab_store.specs.Causes.{ChangesHaveTheirCause, TransactionHasItsCauseTrying};
+ghost use Rattle.lab_store.specs.Causes.{ChangesHaveTheirCause};
+ghost use Rattle.lab_store.specs.Private.Causes.{TransactionHasItsCauseTrying};
 ghost use Rattle.lab_store.specs.Commits.{EndsStep};
 ghost use Rattle.lab_store.specs.Counting.{IsKeeping};
 

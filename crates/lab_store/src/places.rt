@@ -9,9 +9,11 @@ ghost use Rattle.lab_store_tables.specs.Ready.{IsAtRest, IsReady};
 ghost use Rattle.lab_store_read.specs.Causes.{IsCaused};
 ghost use Rattle.lab_store_read.specs.Cells.{storage};
 ghost use Rattle.lab_store_read.specs.Reads.{Reads};
-ghost use Rattle.lab_store_write.specs.Calls.{FailsFor, Steps};
+ghost use Rattle.lab_store_write.specs.Private.Calls.{FailsFor};
+ghost use Rattle.lab_store_write.specs.Calls.{Steps};
 ghost use Rattle.lab_store_write.specs.Causes.{IsTooGreat};
-ghost use Rattle.lab_store.specs.Causes.{CommitHasItsCause, TransactionHasItsCause};
+ghost use Rattle.lab_store.specs.Causes.{CommitHasItsCause};
+ghost use Rattle.lab_store.specs.Private.Causes.{TransactionHasItsCause};
 ghost use Rattle.lab_store.specs.Commits.{EndsStep};
 ghost use Rattle.lab_store_write_changes.specs.NewbornRows.{AddsRows};
 

@@ -37,8 +37,10 @@ use Rattle.lab_store_tables.specs.Ready.{IsKept}
 use Rattle.lab_store_tables.proofs.Tests.{kept_by_tests}
 use Rattle.lab_store_tables.proofs.Tables.{AreSpared, stored_with, rising_with, none_stored, none_rising, held_if_stored}
 use Rattle.lab_store_files.specs.declared.tables.LabTable.{LabTable}
-use Rattle.lab_store_files.specs.Tables.{own_table, table_text, all_tables}
-use Rattle.lab_store_files.specs.NewFiles.{no_schema, schema_of, schema_before, schema_with, place_in, IsEmptyUnder, IsNewFile, schema_row, new_tables}
+use Rattle.lab_store_files.specs.Tables.{own_table, all_tables}
+use Rattle.lab_store_files.specs.Private.Tables.{table_text}
+use Rattle.lab_store_files.specs.NewFiles.{no_schema, IsEmptyUnder, IsNewFile, schema_row, new_tables}
+use Rattle.lab_store_files.specs.Private.NewFiles.{schema_of, schema_before, schema_with, place_in}
 use Rattle.lab_store_files.proofs.Statements.{makes_table, table_is, index_makes, index_text, index_plain, index_is, whole_is, row_text, row_terms, row_makes, row_plain}
 
 -- a part that gave a value did not stop on the way

@@ -17,8 +17,9 @@ use Rattle.lab_store_tables.proofs.SchemaWords.{sessions_of_person_text}
 use Rattle.lab_store_tables.proofs.SchemaValues.{desk_is, labs_is, persons_is, sessions_is, forms_is, fields_is, choices_is, records_is, versions_is, entries_is, signatures_is, trail_is, sessions_of_person_is, schema_is}
 use Rattle.lab_store_files.specs.declared.tables.LabTable.{LabTable}
 use Rattle.lab_store_files.specs.declared.tables.LabTable.TheVariants.{Desk, Labs, Persons, Sessions, Forms, Fields, Choices, Records, Versions, Entries, Signatures, Trail}
-use Rattle.lab_store_files.specs.Tables.{own_table, table_text, all_tables}
-use Rattle.lab_store_files.specs.NewFiles.{schema_of, schema_before, schema_with}
+use Rattle.lab_store_files.specs.Tables.{own_table, all_tables}
+use Rattle.lab_store_files.specs.Private.Tables.{table_text}
+use Rattle.lab_store_files.specs.Private.NewFiles.{schema_of, schema_before, schema_with}
 use Rattle.lab_store_files.specs.Verdicts.{number_query}
 
 -- the statement of a table makes it, and nothing beside it

@@ -4,3 +4,4 @@ pub mod Schemas
 pub mod Verdicts
 pub mod Owed
 pub mod NewFiles
+pub mod Private

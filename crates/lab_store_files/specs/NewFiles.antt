@@ -1,11 +1,10 @@
 -- A new file: the twelve tables, without rows but for the one that names the schema (21 CFR 11.10(c),
 -- "protection of records to enable their accurate and ready retrieval throughout the records
 -- retention period": a file that names its schema can be read by a later program).
-use Rattle.std.specs.Prelude.{◌≡◌, pos, ℕ, List, [], ◌∷◌, fold, take}
+use Rattle.std.specs.Prelude.{◌≡◌, pos, [], ◌∷◌}
 use Rattle.std.specs.List.{AllByRecursion}
 use Rattle.sqlite_schema.specs.declared.schema.Schema.{Schema}
 use Rattle.sqlite_schema.specs.declared.schema.Table.{Table}
-use Rattle.sqlite_catalog.specs.Change.{created}
 use Rattle.sqlite.specs.Effect.{Database}
 use Rattle.sqlite.specs.State.{State}
 use Rattle.lab_store_tables.specs.Family.{empty_tables}
@@ -13,9 +12,6 @@ use Rattle.lab_store_tables.specs.Schema.{schema_number}
 use Rattle.lab_store_tables.specs.Rows.{Tables, DeskRow}
 use Rattle.lab_store_tables.specs.Held.{Holds}
 use Rattle.lab_store_tables.specs.Ready.{CommitsOnce}
-use Rattle.lab_store_files.specs.declared.tables.LabTable.{LabTable}
-use Rattle.lab_store_files.specs.declared.tables.LabTable.TheVariants.{Desk, Labs, Persons, Sessions, Forms, Fields, Choices, Records, Versions, Entries, Signatures, Trail}
-use Rattle.lab_store_files.specs.Tables.{own_table, all_tables}
 
 abbrev pub no_schema : Schema
 no_schema = record { tables = []; indexes = []; views = [] }
@@ -23,32 +19,6 @@ no_schema = record { tables = []; indexes = []; views = [] }
 -- nothing is in the file
 abbrev pub IsBlank : Database → Type 0
 IsBlank db = db.schema ≡ no_schema
-
--- the schema of tables that were made one after the other
-abbrev pub schema_of : List LabTable → Schema
-schema_of ones = fold (λ schema one. created schema (own_table one)) no_schema ones
-
--- where a table stands among the twelve
-abbrev pub place_in : LabTable → ℕ
-place_in Desk = 0
-place_in Labs = 1
-place_in Persons = 2
-place_in Sessions = 3
-place_in Forms = 4
-place_in Fields = 5
-place_in Choices = 6
-place_in Records = 7
-place_in Versions = 8
-place_in Entries = 9
-place_in Signatures = 10
-place_in Trail = 11
-
--- the schema before a table is made, and once it is made
-abbrev pub schema_before : LabTable → Schema
-schema_before one = schema_of (take (place_in one) all_tables)
-
-abbrev pub schema_with : LabTable → Schema
-schema_with one = created (schema_before one) (own_table one)
 
 -- a database of a schema, none of whose tables has a row
 pub record IsEmptyUnder (schema : Schema) (db : Database) : Type 0 where

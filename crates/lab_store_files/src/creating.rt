@@ -9,7 +9,8 @@ ghost use Rattle.lab_store_tables.specs.Ready.{IsAtRest, IsReady, WhereShown, ta
 ghost use Rattle.lab_store_files.specs.declared.faults.FileFault.TheVariants.{NotEmpty, Storage, Memory};
 ghost use Rattle.lab_store_files.specs.Schemas as spec;
 ghost use Rattle.lab_store_files.specs.Tables.{all_tables};
-ghost use Rattle.lab_store_files.specs.NewFiles.{schema_of, schema_before, schema_with, IsEmptyUnder, IsBlank, IsNewFile, EndsNewFile};
+ghost use Rattle.lab_store_files.specs.Private.NewFiles.{schema_of, schema_before, schema_with};
+ghost use Rattle.lab_store_files.specs.NewFiles.{IsEmptyUnder, IsBlank, IsNewFile, EndsNewFile};
 
 use crate::faults::FileFault;
 use crate::schemas::is_taken;

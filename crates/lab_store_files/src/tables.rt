@@ -1,7 +1,8 @@
 //! The twelve tables by name: the statement that makes each, and its columns.
 
 ghost use Rattle.std.specs.Prelude.{◌≡◌};
-ghost use Rattle.lab_store_files.specs.Tables.{table_name, table_text, own_table};
+ghost use Rattle.lab_store_files.specs.Tables.{table_name, own_table};
+ghost use Rattle.lab_store_files.specs.Private.Tables.{table_text};
 ghost use Rattle.lab_store_files.specs.Schemas.{has_columns};
 
 use crate::schemas::has_all;

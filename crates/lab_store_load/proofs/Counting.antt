@@ -13,7 +13,7 @@ use Rattle.lab_store_read_records.specs.declared.heads.LabHead.{LabHead}
 use Rattle.lab_store_load.specs.declared.counts.Counted.{Counted}
 use Rattle.lab_store_read_records.specs.Heads.{lab_head}
 use Rattle.lab_store_load.specs.Counts.{IsCounted, IsCountedIn, IsOpenIn, lab_id_of}
-use Rattle.lab_store_load.specs.Parts.{slice_by}
+use Rattle.lab_store_load.specs.Private.Parts.{slice_by}
 
 abbrev pub lab_head_id : LabHead → ℤ
 lab_head_id head = head.id

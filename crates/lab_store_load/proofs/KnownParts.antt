@@ -10,9 +10,10 @@ use Rattle.lab_records_kept.specs.Parts.{part}
 use Rattle.lab_store_tables.proofs.KnownFile.{filled, file}
 use Rattle.lab_store_tables.proofs.KnownValues.{aqua}
 use Rattle.lab_store_read_records.specs.Laboratories.{lab_by}
-use Rattle.lab_store_load.specs.Parts.{slice_by}
+use Rattle.lab_store_load.specs.Private.Parts.{slice_by}
 use Rattle.lab_people_access.specs.declared.persons.Person.{Person}
-use Rattle.lab_store_load.specs.People.{callers_by, people_by}
+use Rattle.lab_store_load.specs.Private.People.{callers_by}
+use Rattle.lab_store_load.specs.People.{people_by}
 use Rattle.lab_records_kept.specs.declared.records.FormVersion.{FormVersion}
 use Rattle.lab_records_kept.specs.declared.records.Record.{Record}
 use Rattle.lab_store_load.specs.Things.{things_by}

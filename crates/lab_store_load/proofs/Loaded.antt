@@ -6,7 +6,7 @@ use Rattle.lab_store_tables.specs.Rows.{LabRow, Tables}
 use Rattle.lab_store_tables.specs.WellKept.{IsWellKept, has_counted}
 use Rattle.lab_store_tables.specs.Meaning.{lab_in, has_code, meaning}
 use Rattle.lab_store_read_records.specs.Heads.{lab_head}
-use Rattle.lab_store_load.specs.Parts.{slice_by}
+use Rattle.lab_store_load.specs.Private.Parts.{slice_by}
 use Rattle.lab_store_load.proofs.CountLemmas.{found_among, counted, all_counted}
 
 slice_is : (t : Tables) (need : Need) (row : LabRow) → has_counted t row ≡ true → slice_by t need (lab_head row) ≡ part need (lab_in t row)

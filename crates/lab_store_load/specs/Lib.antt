@@ -1,6 +1,6 @@
 pub mod Counts
 pub mod Lists
-pub mod Parts
 pub mod People
 pub mod Readable
 pub mod Things
+pub mod Private

@@ -8,7 +8,7 @@ ghost use Rattle.lab_store_read.specs.Causes.{HasItsCause};
 ghost use Rattle.lab_store_read.specs.Reads.{Reads, MayRead};
 ghost use Rattle.lab_store_load.specs.Counts.{IsCounted};
 ghost use Rattle.lab_store_load.specs.Readable.{HasPeople, HasThings, HasSlice, HasPart};
-ghost use Rattle.lab_store_load.specs.Parts.{slice_with, slice_counted, slice_by};
+ghost use Rattle.lab_store_load.specs.Private.Parts.{slice_with, slice_counted, slice_by};
 
 use crate::counts::Counted;
 use crate::lists::{Listed, counts_at, listed_at};

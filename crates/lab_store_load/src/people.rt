@@ -3,7 +3,8 @@
 ghost use Rattle.std.specs.Prelude.{◌≡◌, option_and_then};
 ghost use Rattle.lab_records_kept.specs.Lookups.{session_at, person_at, caller_of};
 ghost use Rattle.lab_store_read_records.specs.Laboratories.{lab_by};
-ghost use Rattle.lab_store_load.specs.People.{callers_by, people_by};
+ghost use Rattle.lab_store_load.specs.Private.People.{callers_by};
+ghost use Rattle.lab_store_load.specs.People.{people_by};
 ghost use Rattle.lab_store_load.specs.Readable.{HasSessionOf, HasPersonOf, HasCallerOf, HasCallers, HasPeople};
 ghost use Rattle.lab_store_read.specs.Causes.{HasItsCause};
 ghost use Rattle.lab_store_read.specs.Reads.{MayRead};

@@ -9,7 +9,8 @@ use Rattle.sqlite_keyed.specs.Keyed.{get_by}
 use Rattle.lab_store_tables.specs.Rows.{PersonRow, person_id, Tables, number, flag, optional, number_in, flag_in, optional_in}
 use Rattle.lab_store_tables.specs.Meaning.{code_of}
 use Rattle.lab_store_read.specs.Cells.{is_text_cell}
-use Rattle.lab_store_read.specs.Shown.{code_shown, codes_shown, code_read, shows_code}
+use Rattle.lab_store_read.specs.Shown.{code_shown, codes_shown, shows_code}
+use Rattle.lab_store_read.specs.Private.Shown.{code_read}
 use Rattle.sqlite_value.specs.declared.value.Value.TheVariants.{Int, Blob, Text}
 use Rattle.sqlite_value.specs.Order.{bytes}
 use Rattle.sqlite_rules.specs.Edit.{id_in}

@@ -7,7 +7,8 @@ use Rattle.sqlite_rules.proofs.ListLemmas.{contains_had, has_found}
 use Rattle.lab_store_tables.specs.Rows.{Tables}
 use Rattle.lab_store_tables.specs.Meaning.{code_of}
 use Rattle.lab_store_read.specs.declared.known.KnownCode.{KnownCode}
-use Rattle.lab_store_read.specs.Known.{AreKnown, IsKnown, code_among, kept_code, known_by}
+use Rattle.lab_store_read.specs.Known.{AreKnown, IsKnown}
+use Rattle.lab_store_read.specs.Private.Known.{code_among, kept_code, known_by}
 
 abbrev pub known_with : ℤ → List ℕ → KnownCode
 known_with id code = record { id = id; code = code }

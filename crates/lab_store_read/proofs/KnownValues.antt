@@ -12,7 +12,8 @@ use Rattle.lab_forms_texts.specs.Moment.{is_moment}
 use Rattle.lab_forms_texts.specs.Names.{is_person_code}
 use Rattle.lab_forms_texts.specs.declared.refusals.Fault.TheVariants.{Refused, Memory}
 use Rattle.lab_store_read.specs.Cells.{is_id, is_number, is_small, is_text_cell, is_digest, is_optional, stands}
-use Rattle.lab_store_read.specs.Faults.{name_fault, store_fault}
+use Rattle.lab_store_read.specs.Private.Faults.{name_fault}
+use Rattle.lab_store_read.specs.Faults.{store_fault}
 use Rattle.lab_store_read.specs.Shown.{codes_shown}
 
 -- the code of one person alone

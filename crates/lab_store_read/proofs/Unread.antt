@@ -7,7 +7,7 @@ use Rattle.lab_forms_texts.specs.Faults.{NameFaultFits}
 use Rattle.lab_forms_texts.specs.declared.faults.BadName.{BadName}
 use Rattle.lab_forms_texts.specs.declared.refusals.Fault.{Fault}
 use Rattle.lab_forms_texts.specs.declared.refusals.Fault.TheVariants.{Refused, Memory}
-use Rattle.lab_store_read.specs.Faults.{name_fault}
+use Rattle.lab_store_read.specs.Private.Faults.{name_fault}
 use Rattle.lab_store_read.specs.Cells.{IsNotMade}
 
 -- a fault that fits what is tried as a text fits it as what stands in a column

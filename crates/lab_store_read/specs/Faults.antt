@@ -1,6 +1,5 @@
 -- What an error of the store, and a text that is none, are told as.
 use Rattle.std.specs.Prelude.{Bool, true, false, if◌then◌else◌}
-use Rattle.lab_forms_texts.specs.declared.faults.BadName.{BadName}
 use Rattle.lab_forms_texts.specs.declared.refusals.Fault.{Fault}
 use Rattle.lab_forms_texts.specs.declared.refusals.Fault.TheVariants.{Refused, Memory}
 use Rattle.lab_records_keeper.specs.declared.faults.BadStore.{BadStore}
@@ -17,7 +16,3 @@ is_out_of_memory _ = false
 
 abbrev pub store_fault : Error → Fault BadStore
 store_fault error = if is_out_of_memory error then Memory else Refused (record {})
-
-abbrev pub name_fault : Fault BadName → Fault BadStore
-name_fault (Refused _) = Refused (record {})
-name_fault Memory = Memory

@@ -4,3 +4,4 @@ pub mod Faults
 pub mod Reads
 pub mod Shown
 pub mod Known
+pub mod Private

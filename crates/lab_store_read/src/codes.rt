@@ -6,7 +6,8 @@ ghost use Rattle.lab_store_tables.specs.Meaning.{code_of};
 ghost use Rattle.lab_store_read.specs.Causes.{HasItsCause};
 ghost use Rattle.lab_store_read.specs.Cells.{IsNotMade};
 ghost use Rattle.lab_store_read.specs.Reads.{Reads};
-ghost use Rattle.lab_store_read.specs.Shown.{codes_shown, code_read, shows_code};
+ghost use Rattle.lab_store_read.specs.Shown.{codes_shown, shows_code};
+ghost use Rattle.lab_store_read.specs.Private.Shown.{code_read};
 
 use crate::asking::rows_by_one;
 use crate::cells::text_of;

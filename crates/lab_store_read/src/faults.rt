@@ -1,7 +1,8 @@
 //! Why nothing was read.
 
 ghost use Rattle.std.specs.Prelude.{◌≡◌};
-ghost use Rattle.lab_store_read.specs.Faults.{is_out_of_memory, name_fault, store_fault};
+ghost use Rattle.lab_store_read.specs.Faults.{is_out_of_memory, store_fault};
+ghost use Rattle.lab_store_read.specs.Private.Faults.{name_fault};
 
 use lab_forms_texts::NameFault;
 use lab_records_keeper::{BadStore, KeeperFault};

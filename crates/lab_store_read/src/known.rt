@@ -8,7 +8,8 @@ ghost use Rattle.lab_store_tables.specs.Meaning.{code_of};
 ghost use Rattle.lab_store_read.specs.Causes.{HasItsCause};
 ghost use Rattle.lab_store_read.specs.Reads.{Reads, MayRead};
 ghost use Rattle.lab_store_read.specs.Shown.{codes_shown, shows_code};
-ghost use Rattle.lab_store_read.specs.Known.{AreKnown, code_among, known_by};
+ghost use Rattle.lab_store_read.specs.Known.{AreKnown};
+ghost use Rattle.lab_store_read.specs.Private.Known.{code_among, known_by};
 
 use crate::codes::code_at;
 use crate::faults::ReadFault;

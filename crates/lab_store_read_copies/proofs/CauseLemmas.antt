@@ -26,7 +26,8 @@ use Rattle.lab_store_read_records.specs.Leaves.{leaf_by, leaf_of}
 use Rattle.lab_store_read_records.specs.Readable.{ArePlaced, HasLeaf, is_placed}
 use Rattle.lab_store_read_records.proofs.Below.{leaves_below}
 use Rattle.lab_store_read_records.proofs.RetrievalFound.{leaves_found}
-use Rattle.lab_store_read_copies.specs.Causes.{CopyHasItsCause, HasNumbered, HasPlacedVersion, HasPlacedVersions, HasRange, HasVersions}
+use Rattle.lab_store_read_copies.specs.Causes.{CopyHasItsCause, HasNumbered, HasPlacedVersion, HasRange}
+use Rattle.lab_store_read_copies.specs.Private.Causes.{HasPlacedVersions, HasVersions}
 use Rattle.lab_store_read_copies.specs.GivenRows.{lab_at}
 
 -- ---- faults

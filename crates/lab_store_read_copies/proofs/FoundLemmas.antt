@@ -21,7 +21,8 @@ use Rattle.lab_store_read_forms.specs.Wholes.{cover_of, record_by}
 use Rattle.lab_store_read_records.proofs.RetrievalFound.{leaves_found}
 use Rattle.lab_store_read_forms.proofs.FiledFound.{numbered_found}
 use Rattle.lab_records_copy_out.specs.CopyTexts.{numbers_between, record_at, record_rows, walked, walked_to}
-use Rattle.lab_store_read_copies.specs.GivenRows.{IsFormed, cover_by, cover_rows, filed_by, head_in, lab_at, rows_of_versions}
+use Rattle.lab_store_read_copies.specs.GivenRows.{IsFormed, cover_by, cover_rows, filed_by, head_in, lab_at}
+use Rattle.lab_store_read_copies.specs.Private.GivenRows.{rows_of_versions}
 use Rattle.lab_store_read_copies.specs.declared.covers.Cover.{Cover}
 use Rattle.lab_store_read_copies.proofs.RowLemmas.{record_in_parts}
 

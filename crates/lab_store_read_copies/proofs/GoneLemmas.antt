@@ -15,7 +15,8 @@ use Rattle.lab_store_tables.specs.Meaning.{Leaf, chained, version_after}
 use Rattle.lab_store_read_records.specs.declared.heads.VersionHead.{VersionHead}
 use Rattle.lab_store_read_records.specs.Leaves.{leaf_by}
 use Rattle.lab_records_copy_out.proofs.OutLemmas.{given_on, given_rows}
-use Rattle.lab_store_read_copies.specs.GivenRows.{rows_of_version, rows_of_versions}
+use Rattle.lab_store_read_copies.specs.GivenRows.{rows_of_version}
+use Rattle.lab_store_read_copies.specs.Private.GivenRows.{rows_of_versions}
 use Rattle.lab_store_read_copies.proofs.RowLemmas.{version_alone, versions_both, versions_first, text_of_both}
 
 -- of all versions those before the rest went out and were counted; the next is behind this digest

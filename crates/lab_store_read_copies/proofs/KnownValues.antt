@@ -13,7 +13,8 @@ use Rattle.lab_store_tables.proofs.KnownValues.{aqua_record, older_version}
 use Rattle.lab_store_read_records.specs.declared.heads.LabHead.{LabHead}
 use Rattle.lab_store_read_records.specs.declared.heads.RecordHead.{RecordHead}
 use Rattle.lab_store_read_copies.specs.declared.covers.Cover.{Cover}
-use Rattle.lab_store_read_copies.specs.GivenRows.{IsFormed, cover_rows, rows_of_version, rows_of_versions, lab_at, head_in, cover_by, filed_by}
+use Rattle.lab_store_read_copies.specs.GivenRows.{IsFormed, cover_rows, rows_of_version, lab_at, head_in, cover_by, filed_by}
+use Rattle.lab_store_read_copies.specs.Private.GivenRows.{rows_of_versions}
 
 -- ---- which record is meant
 

@@ -18,7 +18,8 @@ use Rattle.lab_store_read_records.specs.declared.heads.RecordHead.{RecordHead}
 use Rattle.lab_store_read_forms.specs.Wholes.{record_by}
 use Rattle.lab_records_copy_out.specs.CopyTexts.{record_rows}
 use Rattle.lab_records_copy_out.proofs.OutLemmas.{given_on, given_rows}
-use Rattle.lab_store_read_copies.specs.GivenRows.{cover_by, cover_rows, rows_of_version, rows_of_versions}
+use Rattle.lab_store_read_copies.specs.GivenRows.{cover_by, cover_rows, rows_of_version}
+use Rattle.lab_store_read_copies.specs.Private.GivenRows.{rows_of_versions}
 
 -- ---- any rows
 

@@ -2,19 +2,17 @@
 -- lab_store_read names them. Else a row that is read isn't readable; which rows those are, and
 -- what is readable of them, is said here (21 CFR 11.10(b), "accurate and complete copies of
 -- records").
-use Rattle.std.specs.Prelude.{◌≡◌, ◌≤◌, ℕ, ℤ, Bool, false, List, map, Result, All, IfErr, IfSome, IsTrue}
+use Rattle.std.specs.Prelude.{◌≡◌, ◌≤◌, ℕ, ℤ, Bool, List, Result, IfErr, IfSome, IsTrue}
 use Rattle.sqlite.specs.State.{State, HasCleanDisk}
 use Rattle.lab_records_copy_out.specs.declared.faults.CopyOutFault.{CopyOutFault}
 use Rattle.lab_records_copy_out.specs.declared.faults.CopyOutFault.TheVariants.{Storage}
 use Rattle.lab_store_tables.specs.Rows.{Tables}
-use Rattle.lab_store_tables.specs.Meaning.{leaves_of}
 use Rattle.lab_store_tables.specs.Ready.{IsReady, tables_of}
 use Rattle.lab_store_read.specs.Causes.{HasFirst, IsCaused}
 use Rattle.lab_store_read_records.specs.declared.heads.LabHead.{LabHead}
 use Rattle.lab_store_read_records.specs.declared.heads.VersionHead.{VersionHead}
-use Rattle.lab_store_read_records.specs.Leaves.{leaf_by}
-use Rattle.lab_store_read_records.specs.Readable.{ArePlaced, HasLab, HasLeaf, HasWholeVersion, is_placed}
-use Rattle.lab_store_read_records.specs.Shown.{labs_shown, records_shown, versions_shown}
+use Rattle.lab_store_read_records.specs.Readable.{HasLab, HasLeaf, is_placed}
+use Rattle.lab_store_read_records.specs.Shown.{labs_shown, records_shown}
 use Rattle.lab_store_read_forms.specs.Readable.{HasWholeRecord}
 use Rattle.lab_store_read_copies.specs.GivenRows.{lab_at}
 
@@ -32,16 +30,6 @@ pub record CopyHasItsCause {T : Type 0} (Readable : Tables → Type 0) (old new 
 pub record HasPlacedVersion (t : Tables) (behind : Bool) (head : VersionHead) : Type 0 where
   pub leaf : HasLeaf t head.id
   pub placed : IsTrue (is_placed behind head.number head.reason)
-
--- those with the rows, one after the other
-pub record HasPlacedVersions (t : Tables) (behind : Bool) (heads : List VersionHead) : Type 0 where
-  pub leaves : All (λ (head : VersionHead). HasLeaf t head.id) heads
-  pub placed : ArePlaced behind (map (leaf_by t) heads)
-
--- those of the record with the id
-pub record HasVersions (t : Tables) (kept : ℤ) : Type 0 where
-  pub versions : All (HasWholeVersion t) (versions_shown t kept)
-  pub placed : ArePlaced false (leaves_of t kept)
 
 -- ---- what is read of a laboratory
 

@@ -1,13 +1,12 @@
 -- A record of a laboratory in parts, as its copy goes out: its own row, and then the rows of one
 -- version after the other (21 CFR 11.10(b), "accurate and complete copies of records").
-use Rattle.std.specs.Prelude.{◌≡◌, ℕ, ℤ, List, [], ◌∷◌, ◌++◌, find, Option, None, option_map}
-use Rattle.std.specs.List.{flat_map}
+use Rattle.std.specs.Prelude.{◌≡◌, ℕ, List, [], ◌∷◌, find, Option, option_map}
 use Rattle.lab_records_kept.specs.declared.records.Record.{Record}
 use Rattle.lab_records_kept.specs.declared.records.Version.{Version}
 use Rattle.lab_copy_rows.specs.declared.lines.Line.TheVariants as line
 use Rattle.lab_records_copies.specs.CopyLines.{record_line, rows_of_lines, version_lines}
 use Rattle.lab_store_tables.specs.Rows.{Tables}
-use Rattle.lab_store_tables.specs.Meaning.{chained, form_at, has_code, leaves_of}
+use Rattle.lab_store_tables.specs.Meaning.{form_at, has_code}
 use Rattle.lab_store_read_records.specs.declared.heads.LabHead.{LabHead}
 use Rattle.lab_store_read_records.specs.declared.heads.RecordHead.{RecordHead}
 use Rattle.lab_store_read_records.specs.Heads.{is_record, lab_head, record_head}
@@ -23,18 +22,6 @@ cover_rows lab cover = rows_of_lines (line.Record (record_line lab cover) ∷ []
 -- those of a version; of the record all but its versions is read
 abbrev pub rows_of_version : List ℕ → Record → Version → List (List (List ℕ))
 rows_of_version lab cover version = rows_of_lines (version_lines lab cover version)
-
--- those of versions, one after the other
-abbrev pub rows_of_versions : List ℕ → Record → List Version → List (List (List ℕ))
-rows_of_versions lab cover versions = rows_of_lines (flat_map (version_lines lab cover) versions)
-
--- those of the versions of the record with the id, and the record's own before them
-abbrev pub versions_rows : Tables → List ℕ → Record → ℤ → List (List (List ℕ))
-versions_rows t lab cover kept =
-    rows_of_versions lab cover (chained lab cover None (leaves_of t kept))
-
-abbrev pub parts_rows : Tables → List ℕ → Record → ℤ → List (List (List ℕ))
-parts_rows t lab cover kept = cover_rows lab cover ++ versions_rows t lab cover kept
 
 -- ---- what is read first
 

@@ -1,3 +1,4 @@
 pub mod Causes
 pub mod Gives
 pub mod GivenRows
+pub mod Private

@@ -18,7 +18,7 @@ use Rattle.lab_store_read_records.proofs.Found.{record_found}
 use Rattle.lab_store_read_records.proofs.RetrievalFound.{about_found, within_found}
 use Rattle.lab_store_read_forms.specs.declared.heads.FieldHead.{FieldHead}
 use Rattle.lab_store_read_forms.specs.declared.heads.FormHead.{FormHead}
-use Rattle.lab_store_read_forms.specs.Forms.{form_head, field_heads_of}
+use Rattle.lab_store_read_forms.specs.Private.Forms.{form_head, field_heads_of}
 use Rattle.lab_store_read_forms.specs.Kinds.{is_choice}
 use Rattle.lab_store_read_forms.specs.Readable.{HasField, HasWholeField, HasNames, HasForm, HasFields, HasWholeForm, HasFormAt, HasParts, HasWholeRecord}
 use Rattle.lab_store_read_forms.specs.Shown.{forms_shown, form_read, fields_shown, field_read}

@@ -12,7 +12,7 @@ use Rattle.lab_store_read.proofs.Readers.{none_read, may_and, may_both}
 use Rattle.lab_store_read.proofs.Loops.{HasPut, one_more}
 use Rattle.lab_store_read_records.specs.declared.heads.RecordHead.{RecordHead}
 use Rattle.lab_store_read_forms.specs.declared.heads.FormAt.{FormAt}
-use Rattle.lab_store_read_forms.specs.FormsBehind.{form_with_id, IsAtItsId, IsFiledBehind}
+use Rattle.lab_store_read_forms.specs.Private.FormsBehind.{form_with_id, IsAtItsId, IsFiledBehind}
 use Rattle.lab_store_read_forms.specs.Wholes.{record_by, record_with}
 
 -- ---- a version of a form with its id

@@ -12,7 +12,8 @@ use Rattle.lab_store_tables.specs.Meaning.{fields_of, field_in, names_of, form_i
 use Rattle.lab_store_read_forms.specs.KindsShown.{kind_cells}
 use Rattle.lab_store_read_forms.proofs.KindsFound.{kind_named}
 use Rattle.lab_store_read_forms.specs.declared.heads.FormHead.{FormHead}
-use Rattle.lab_store_read_forms.specs.Forms.{form_head, form_by, field_head, field_heads_of, field_by}
+use Rattle.lab_store_read_forms.specs.Private.Forms.{form_head, field_head, field_heads_of, field_by}
+use Rattle.lab_store_read_forms.specs.Forms.{form_by}
 use Rattle.lab_store_read_forms.specs.Shown.{form_shown, forms_shown, form_read, field_shown, fields_shown, field_read}
 use Rattle.lab_store_read.proofs.Found.{flag_back, text_back, number_back}
 

@@ -3,7 +3,7 @@
 use Rattle.std.proofs.Common.{◌≡◌, pos, map, refl, [], ◌∷◌}
 use Rattle.lab_store_tables.specs.Meaning.{fields_of}
 use Rattle.lab_store_tables.proofs.KnownFile.{file}
-use Rattle.lab_store_read_forms.specs.Forms.{field_by, field_heads_of}
+use Rattle.lab_store_read_forms.specs.Private.Forms.{field_by, field_heads_of}
 use Rattle.std.specs.Prelude.{codes}
 use Rattle.sqlite_value.specs.declared.value.Value.TheVariants.{Text}
 use Rattle.lab_forms.specs.declared.kinds.Kind.TheVariants as kind

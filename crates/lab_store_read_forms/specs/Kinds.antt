@@ -1,13 +1,7 @@
 -- What a field takes, as its columns say, and with its names.
-use Rattle.std.specs.Prelude.{ℕ, Bool, true, false, List, [], unwrap_or}
+use Rattle.std.specs.Prelude.{ℕ, Bool, true, false, List}
 use Rattle.lab_forms.specs.declared.kinds.Kind.{Kind}
 use Rattle.lab_forms.specs.declared.kinds.Kind.TheVariants.{Number, Text, Choice, Date, YesNo}
-use Rattle.lab_store_tables.specs.Rows.{KindColumns}
-
--- a number, by what its columns say
-abbrev pub number_kind : KindColumns → Kind
-number_kind columns =
-    Number (unwrap_or columns.unit []) (unwrap_or columns.decimals 0) columns.low columns.high
 
 -- only a choice has names
 abbrev pub is_choice : Kind → Bool

@@ -5,7 +5,7 @@ ghost use Rattle.lab_store_tables.specs.Meaning.{fields_of};
 ghost use Rattle.lab_store_read.specs.Causes.{HasItsCause};
 ghost use Rattle.lab_store_read.specs.Cells.{storage};
 ghost use Rattle.lab_store_read.specs.Reads.{Reads, MayRead};
-ghost use Rattle.lab_store_read_forms.specs.Forms.{field_heads_of, field_by};
+ghost use Rattle.lab_store_read_forms.specs.Private.Forms.{field_heads_of, field_by};
 ghost use Rattle.lab_store_read_forms.specs.Readable.{HasField, HasWholeField, HasNames};
 ghost use Rattle.lab_store_read_forms.specs.Shown.{fields_shown, field_read};
 ghost use Rattle.lab_store_read_forms.specs.Kinds.{is_choice};

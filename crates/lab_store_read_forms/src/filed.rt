@@ -8,7 +8,7 @@ ghost use Rattle.lab_store_read.specs.Causes.{HasItsCause, HasFirst};
 ghost use Rattle.lab_store_read.specs.Reads.{Reads, MayRead};
 ghost use Rattle.lab_store_read_records.specs.Retrieved.{abouts_shown, within_shown};
 ghost use Rattle.lab_store_read_records.specs.Shown.{records_shown};
-ghost use Rattle.lab_store_read_forms.specs.FormsBehind.{IsAtItsId, IsFiledBehind};
+ghost use Rattle.lab_store_read_forms.specs.Private.FormsBehind.{IsAtItsId, IsFiledBehind};
 ghost use Rattle.lab_store_read_forms.specs.Readable.{HasParts, HasWholeRecord};
 ghost use Rattle.lab_store_read_forms.specs.Wholes.{record_by, record_with};
 

@@ -8,7 +8,8 @@ ghost use Rattle.lab_store_read.specs.Causes.{HasItsCause, HasFirst};
 ghost use Rattle.lab_store_read.specs.Cells.{storage};
 ghost use Rattle.lab_store_read.specs.Reads.{Reads};
 ghost use Rattle.lab_forms.specs.Forms.{is_form};
-ghost use Rattle.lab_store_read_forms.specs.Forms.{form_head, form_by};
+ghost use Rattle.lab_store_read_forms.specs.Private.Forms.{form_head};
+ghost use Rattle.lab_store_read_forms.specs.Forms.{form_by};
 ghost use Rattle.lab_store_read_forms.specs.Readable.{HasForm, HasFields, HasFormAt};
 ghost use Rattle.lab_store_read_forms.specs.Shown.{forms_shown, form_read};
 

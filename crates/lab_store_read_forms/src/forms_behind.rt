@@ -4,7 +4,7 @@
 ghost use Rattle.std.specs.Prelude.{◌≡◌, IfSome};
 ghost use Rattle.lab_store_read.specs.Causes.{HasItsCause};
 ghost use Rattle.lab_store_read.specs.Reads.{Reads, MayRead};
-ghost use Rattle.lab_store_read_forms.specs.FormsBehind.{IsAtItsId, form_with_id};
+ghost use Rattle.lab_store_read_forms.specs.Private.FormsBehind.{IsAtItsId, form_with_id};
 ghost use Rattle.lab_store_read_forms.specs.Readable.{HasFormAt};
 
 use crate::form_at;

@@ -3,7 +3,8 @@
 ghost use Rattle.std.specs.Prelude.{◌≡◌, [], IfOk, IfErr, unwrap_or};
 ghost use Rattle.lab_store_tables.specs.Columns.{kind_in};
 ghost use Rattle.lab_forms.specs.declared.kinds.Kind.TheVariants.{Text as text_kind};
-ghost use Rattle.lab_store_read_forms.specs.Kinds.{number_kind, is_choice, kind_with};
+ghost use Rattle.lab_store_read_forms.specs.Private.Kinds.{number_kind};
+ghost use Rattle.lab_store_read_forms.specs.Kinds.{is_choice, kind_with};
 ghost use Rattle.lab_store_read_forms.specs.KindsShown.{kind_cells};
 ghost use Rattle.lab_store_read.specs.Cells.{storage};
 ghost use Rattle.lab_store_read_forms.specs.Readable.{HasNumber, HasSize, IsOfKind, HasKind};

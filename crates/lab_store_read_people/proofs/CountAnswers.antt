@@ -23,7 +23,7 @@ use Rattle.sqlite_typed.proofs.AnswerLemmas.{Source, count_is}
 use Rattle.sqlite.proofs.Callers.{one_permutation}
 use Rattle.lab_store_tables.specs.Rows.{PersonRow, Tables, number}
 use Rattle.lab_store_tables.specs.Meaning.{persons_of, by_code}
-use Rattle.lab_store_read_people.specs.CountsShown.{count_shown}
+use Rattle.lab_store_read_people.specs.Private.CountsShown.{count_shown}
 
 abbrev pub rows_counted : Aggregate
 rows_counted = record { op = CountRows; distinct = false; collation = Binary; argument = lit Null }

@@ -15,7 +15,7 @@ use Rattle.sqlite.specs.Effect.{Database, RefusesQuery}
 use Rattle.sqlite.specs.Listing.{understood}
 use Rattle.lab_store_tables.specs.Schema.{lab_schema}
 use Rattle.lab_store_read.proofs.Causes.{IsOne, Fits}
-use Rattle.lab_store_read_people.specs.CountsShown.{count_shown, shows_number}
+use Rattle.lab_store_read_people.specs.Private.CountsShown.{count_shown, shows_number}
 use Rattle.lab_store_read_people.proofs.CountAnswers.{rows_counted}
 use Rattle.lab_store_read_people.proofs.PersonTexts.{count_text, count_query}
 

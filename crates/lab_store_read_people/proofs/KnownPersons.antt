@@ -7,8 +7,8 @@ use Rattle.sqlite_value.specs.declared.value.Value.TheVariants.{Int}
 use Rattle.lab_store_tables.specs.Meaning.{persons_of}
 use Rattle.lab_store_tables.proofs.KnownFile.{file}
 use Rattle.lab_store_read_people.specs.declared.heads.PersonHead.{PersonHead}
-use Rattle.lab_store_read_people.specs.CountsShown.{count_shown}
-use Rattle.lab_store_read_people.specs.Heads.{person_by, person_heads_of}
+use Rattle.lab_store_read_people.specs.Private.CountsShown.{count_shown}
+use Rattle.lab_store_read_people.specs.Private.Heads.{person_by, person_heads_of}
 use Rattle.lab_store_read_people.specs.PersonsShown.{person_read, person_shown_by, persons_shown}
 
 -- aqua's four in the order of their codes, none of brick's three

@@ -4,7 +4,8 @@ use Rattle.std.proofs.Common.{◌≡◌, refl, pos, [], ◌∷◌, map}
 use Rattle.std.specs.Prelude.{codes}
 use Rattle.lab_people_access.specs.declared.sessions.Session.{Session}
 use Rattle.lab_store_tables.proofs.KnownFile.{filled, file}
-use Rattle.lab_store_read_people.specs.SessionsShown.{session_read, sessions_shown}
+use Rattle.lab_store_read_people.specs.Private.SessionsShown.{session_read}
+use Rattle.lab_store_read_people.specs.SessionsShown.{sessions_shown}
 
 -- one token in two laboratories: each has its own session of it
 pub known_sessions :

@@ -9,7 +9,7 @@ use Rattle.lab_store_tables.specs.Rows.{Tables}
 use Rattle.lab_store_read.specs.Causes.{HasFirst}
 use Rattle.lab_store_read.proofs.Causes.{Fits, fits_by}
 use Rattle.lab_store_read.proofs.Texts.{is_param, own_query}
-use Rattle.lab_store_read_people.specs.Heads.{person_heads_of}
+use Rattle.lab_store_read_people.specs.Private.Heads.{person_heads_of}
 use Rattle.lab_store_read_people.specs.PersonsShown.{persons_shown, person_read}
 use Rattle.lab_store_read_people.specs.PersonsReadable.{HasPerson, HasAsker, HasWholePerson}
 use Rattle.lab_store_read_people.proofs.PersonsFound.{persons_found}

@@ -18,7 +18,7 @@ use Rattle.lab_store_tables.specs.Family.{Persons}
 use Rattle.lab_store_read.proofs.Texts.{is_param}
 use Rattle.lab_store_read.proofs.Sorted.{and_true, only_answer, own_rows}
 use Rattle.lab_store_read_people.specs.PersonsShown.{person_shown, person_shown_by, persons_shown}
-use Rattle.lab_store_read_people.specs.CountsShown.{count_shown}
+use Rattle.lab_store_read_people.specs.Private.CountsShown.{count_shown}
 use Rattle.lab_store_read_people.proofs.CountAnswers.{count_answer, persons_counted}
 use Rattle.lab_store_read_people.proofs.PersonKeys.{persons_apart}
 use Rattle.lab_store_read_people.proofs.PersonTexts.{person_text, person_query, person_means, persons_text, person_columns, persons_means, count_text, count_query, count_means}

@@ -11,7 +11,8 @@ use Rattle.lab_store_tables.specs.WellKept.{IsWellKept}
 use Rattle.lab_store_tables.specs.Changes.{is_person}
 use Rattle.lab_store_tables.specs.Meaning.{person_in, persons_of, by_code}
 use Rattle.lab_store_read.proofs.Finds.{found_alone}
-use Rattle.lab_store_read_people.specs.Heads.{ask_head, person_head, person_heads_of, ask_by, person_by}
+use Rattle.lab_store_read_people.specs.Heads.{ask_head}
+use Rattle.lab_store_read_people.specs.Private.Heads.{person_head, person_heads_of, ask_by, person_by}
 use Rattle.lab_store_read_people.specs.PersonsShown.{person_shown, person_shown_by, persons_shown, person_read, password_cells, ask_cells}
 use Rattle.lab_store_read_people.proofs.PersonKeys.{persons_apart}
 use Rattle.lab_store_read.proofs.Lists.{alone_texts}

@@ -10,7 +10,8 @@ use Rattle.lab_store_tables.specs.WellKept.{IsWellKept}
 use Rattle.lab_store_tables.specs.Changes.{is_session}
 use Rattle.lab_store_tables.specs.Meaning.{session_in, sessions_of, by_session}
 use Rattle.lab_store_read.proofs.Finds.{found_alone}
-use Rattle.lab_store_read_people.specs.SessionsShown.{session_shown, sessions_shown, session_read}
+use Rattle.lab_store_read_people.specs.SessionsShown.{session_shown, sessions_shown}
+use Rattle.lab_store_read_people.specs.Private.SessionsShown.{session_read}
 use Rattle.lab_store_read_people.proofs.SessionKeys.{tokens_apart}
 use Rattle.lab_store_read.proofs.Lists.{alone_texts}
 use Rattle.lab_store_read.proofs.Found.{flag_back}

@@ -1,5 +1,5 @@
-pub mod CountsShown
 pub mod Heads
 pub mod PersonsReadable
 pub mod PersonsShown
 pub mod SessionsShown
+pub mod Private

@@ -1,12 +1,11 @@
 -- The rows that each query shows of the tables, in its order, and what such a row is read as.
 use Rattle.std.specs.Prelude.{ℕ, ℤ, List, [], ◌∷◌, map, filter, IsTrue}
 use Rattle.sqlite_value.specs.declared.value.Value.TheVariants.{Text, Blob}
-use Rattle.sqlite_value.specs.Order.{Row, column, bytes}
+use Rattle.sqlite_value.specs.Order.{Row}
 use Rattle.lab_forms_texts.specs.Moment.{is_moment}
 use Rattle.lab_forms_texts.specs.Names.{is_person_code}
 use Rattle.lab_forms_texts.specs.Ordinals.{is_ordinal}
-use Rattle.lab_people_access.specs.declared.sessions.Session.{Session}
-use Rattle.lab_store_tables.specs.Rows.{SessionRow, Tables, number, flag, number_in, flag_in}
+use Rattle.lab_store_tables.specs.Rows.{SessionRow, Tables, number, flag}
 use Rattle.lab_store_tables.specs.Changes.{is_session}
 use Rattle.lab_store_tables.specs.Meaning.{code_of}
 use Rattle.lab_store_read.specs.Cells.{is_number, is_small, is_text_cell, is_digest, stands}
@@ -18,17 +17,6 @@ session_shown t one =
 
 abbrev pub sessions_shown : Tables → ℤ → List ℕ → List Row
 sessions_shown t lab token = map (session_shown t) (filter (is_session lab token) t.sessions)
-
-abbrev pub session_read : Row → Session
-session_read row = record {
-  number = number_in (column row 0);
-  person = bytes (column row 1);
-  token = bytes (column row 2);
-  opened = number_in (column row 3);
-  last = number_in (column row 4);
-  closed = flag_in (column row 5);
-  signed = flag_in (column row 6);
-}
 
 -- each column of the row has a value of its type
 pub record HasSession (row : Row) : Type 0 where

@@ -6,7 +6,7 @@ ghost use Rattle.lab_store_tables.specs.Meaning.{persons_of};
 ghost use Rattle.lab_store_read.specs.Causes.{HasItsCause};
 ghost use Rattle.lab_store_read.specs.Cells.{is_id, stands, IsNotMade};
 ghost use Rattle.lab_store_read.specs.Reads.{Reads};
-ghost use Rattle.lab_store_read_people.specs.CountsShown.{count_shown, shows_number};
+ghost use Rattle.lab_store_read_people.specs.Private.CountsShown.{count_shown, shows_number};
 
 use lab_store_read::asking::rows_by_one;
 use lab_store_read::cells::id_of;

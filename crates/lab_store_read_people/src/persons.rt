@@ -6,7 +6,7 @@ ghost use Rattle.lab_store_tables.specs.Meaning.{persons_of};
 ghost use Rattle.lab_store_read.specs.Causes.{HasItsCause, HasFirst};
 ghost use Rattle.lab_store_read.specs.Cells.{storage};
 ghost use Rattle.lab_store_read.specs.Reads.{Reads, MayRead};
-ghost use Rattle.lab_store_read_people.specs.Heads.{ask_by, person_by, person_heads_of};
+ghost use Rattle.lab_store_read_people.specs.Private.Heads.{ask_by, person_by, person_heads_of};
 ghost use Rattle.lab_store_read_people.specs.PersonsReadable.{HasPerson, HasCode, HasAsker, HasWholePerson};
 ghost use Rattle.lab_store_read_people.specs.PersonsShown.{person_shown_by, persons_shown, person_read};
 

@@ -6,7 +6,8 @@ ghost use Rattle.lab_store_tables.specs.Meaning.{sessions_of};
 ghost use Rattle.lab_store_read.specs.Causes.{HasItsCause, HasFirst};
 ghost use Rattle.lab_store_read.specs.Cells.{storage};
 ghost use Rattle.lab_store_read.specs.Reads.{Reads};
-ghost use Rattle.lab_store_read_people.specs.SessionsShown.{sessions_shown, session_read, HasSession};
+ghost use Rattle.lab_store_read_people.specs.SessionsShown.{sessions_shown, HasSession};
+ghost use Rattle.lab_store_read_people.specs.Private.SessionsShown.{session_read};
 
 use crate::asking::rows_by_token;
 use lab_people_access::Session;

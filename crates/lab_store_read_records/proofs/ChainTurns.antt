@@ -8,7 +8,7 @@ use Rattle.lab_records_kept.specs.declared.records.Version.{Version}
 use Rattle.lab_records_kept.specs.Digests.{digest_of}
 use Rattle.lab_records_kept.specs.Lookups.{last_of}
 use Rattle.lab_store_tables.specs.Meaning.{Leaf, version_after, chained}
-use Rattle.lab_store_read_records.specs.Chains.{before_next}
+use Rattle.lab_store_read_records.specs.Private.Chains.{before_next}
 use Rattle.lab_store_read_records.specs.Readable.{is_placed, ArePlaced}
 
 nth_last : {A : Type 0} (xs : List A) (x : A) → slice_get (xs ++ x ∷ []) (length xs) ≡ Some x

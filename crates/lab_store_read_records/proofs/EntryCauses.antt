@@ -6,9 +6,11 @@ use Rattle.sqlite_keyed.specs.Lists.{sort_by}
 use Rattle.lab_store_tables.specs.Rows.{EntryRow, Tables}
 use Rattle.lab_store_tables.specs.Meaning.{by_entry}
 use Rattle.lab_store_read.proofs.Found.{code_there}
-use Rattle.lab_store_read_records.specs.Heads.{entry_head, entry_heads_of}
-use Rattle.lab_store_read_records.specs.Readable.{HasEntry, HasOwnEntry, HasWriter}
-use Rattle.lab_store_read_records.specs.Shown.{entry_shown, entries_shown, own_entry_shown, own_entries_shown}
+use Rattle.lab_store_read_records.specs.Private.Heads.{entry_head, entry_heads_of}
+use Rattle.lab_store_read_records.specs.Readable.{HasEntry}
+use Rattle.lab_store_read_records.specs.Private.Readable.{HasOwnEntry, HasWriter}
+use Rattle.lab_store_read_records.specs.Shown.{entry_shown, entries_shown}
+use Rattle.lab_store_read_records.specs.Private.Shown.{own_entry_shown, own_entries_shown}
 
 own_there : (t : Tables) (one : EntryRow) → HasEntry (entry_shown t one) → HasOwnEntry (own_entry_shown one)
 own_there t one has = record { key = has.key; value = has.value; unit = has.unit; person = refl; moment = has.moment; reason = has.reason }

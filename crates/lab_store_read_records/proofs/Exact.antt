@@ -23,7 +23,8 @@ use Rattle.lab_store_tables.specs.Meaning.{has_code, code_of}
 use Rattle.lab_store_tables.specs.Ready.{IsKept}
 use Rattle.lab_store_tables.specs.Family.{Labs, Persons, Records, Versions, Entries, Signatures}
 use Rattle.lab_store_read_records.specs.Heads.{is_record}
-use Rattle.lab_store_read_records.specs.Shown.{labs_shown, records_shown, own_entry_shown, own_entries_shown, signatures_shown, versions_shown}
+use Rattle.lab_store_read_records.specs.Shown.{labs_shown, records_shown, signatures_shown, versions_shown}
+use Rattle.lab_store_read_records.specs.Private.Shown.{own_entry_shown, own_entries_shown}
 use Rattle.lab_store_read_records.proofs.Keys.{labs_apart, records_apart, versions_apart, entries_apart, signatures_apart, openers, signers}
 use Rattle.lab_store_read_records.proofs.Texts.{lab_text, lab_query, lab_means, record_text, record_means, child_tests, entry_text, entry_columns, entry_means, signature_text, signature_columns, signature_means, version_text, version_columns, version_means}
 use Rattle.lab_store_read.proofs.Texts.{record_query, children_query, is_param}

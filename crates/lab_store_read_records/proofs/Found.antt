@@ -5,14 +5,16 @@ use Rattle.lab_store_tables.specs.Rows.{LabRow, RecordRow, VersionRow, EntryRow,
 use Rattle.lab_store_tables.specs.Columns.{meaning_in}
 use Rattle.lab_store_tables.specs.Meaning.{has_code, entries_of, signature_in, signatures_of}
 use Rattle.lab_store_read.proofs.Found.{text_back}
-use Rattle.lab_store_read_records.specs.Heads.{lab_head, is_record, record_head, version_head, versions_of, entry_head, entry_heads_of, entry_by}
+use Rattle.lab_store_read_records.specs.Heads.{lab_head, is_record, record_head, version_head, versions_of}
+use Rattle.lab_store_read_records.specs.Private.Heads.{entry_head, entry_heads_of, entry_by}
 use Rattle.lab_seal_versions.specs.declared.rows.EntryRow.{EntryRow as Entry}
 use Rattle.lab_records_kept.specs.declared.records.Signature.{Signature}
 use Rattle.lab_store_tables.specs.Meaning.{Leaf}
 use Rattle.lab_store_read_records.specs.declared.heads.EntryHead.{EntryHead}
 use Rattle.lab_store_read_records.specs.declared.heads.VersionHead.{VersionHead}
 use Rattle.lab_store_read_records.specs.Leaves.{leaf_by}
-use Rattle.lab_store_read_records.specs.Shown.{lab_shown, labs_shown, lab_read, record_shown, records_shown, record_head_of, own_entry_shown, own_entries_shown, own_entry_read, signature_shown, signatures_shown, signature_read, version_shown, versions_shown, version_read}
+use Rattle.lab_store_read_records.specs.Shown.{lab_shown, labs_shown, lab_read, record_shown, records_shown, record_head_of, signature_shown, signatures_shown, version_shown, versions_shown, version_read}
+use Rattle.lab_store_read_records.specs.Private.Shown.{own_entry_shown, own_entries_shown, own_entry_read, signature_read}
 
 pub lab_found : (t : Tables) (code : List ℕ) → option_map lab_read (slice_get (labs_shown t code) 0) ≡ option_map lab_head (find (has_code code) t.labs)
 lab_found t code = go (filter (has_code code) t.labs) ∙ ap (option_map lab_head) (slice_get-filter (has_code code) t.labs)

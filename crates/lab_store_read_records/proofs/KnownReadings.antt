@@ -5,9 +5,11 @@ use Rattle.std.specs.Prelude.{codes}
 use Rattle.sqlite_value.specs.declared.value.Value.TheVariants.{Null, Int, Text}
 use Rattle.lab_store_tables.specs.Meaning.{leaves_of, entries_of}
 use Rattle.lab_store_tables.proofs.KnownFile.{filed, file}
-use Rattle.lab_store_read_records.specs.Heads.{record_head, versions_of, entry_heads_of, entry_by}
+use Rattle.lab_store_read_records.specs.Heads.{record_head, versions_of}
+use Rattle.lab_store_read_records.specs.Private.Heads.{entry_heads_of, entry_by}
 use Rattle.lab_store_read_records.specs.Leaves.{leaf_by}
-use Rattle.lab_store_read_records.specs.Shown.{labs_shown, own_entries_shown, own_entry_read, entries_shown, records_shown, record_head_of, versions_shown, version_read}
+use Rattle.lab_store_read_records.specs.Shown.{labs_shown, entries_shown, records_shown, record_head_of, versions_shown, version_read}
+use Rattle.lab_store_read_records.specs.Private.Shown.{own_entries_shown, own_entry_read}
 
 -- aqua's own row, and none of a code that isn't there
 pub known_labs :

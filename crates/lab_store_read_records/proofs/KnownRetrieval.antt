@@ -4,7 +4,7 @@ use Rattle.std.proofs.Common.{◌≡◌, pos, [], ◌∷◌, Some, None, refl}
 use Rattle.std.specs.Prelude.{codes, filter}
 use Rattle.lab_store_tables.proofs.KnownFile.{filed, file, filled}
 use Rattle.lab_store_read_records.specs.Heads.{record_head}
-use Rattle.lab_store_read_records.specs.Chains.{origin_after}
+use Rattle.lab_store_read_records.specs.Private.Chains.{origin_after}
 use Rattle.lab_store_read_records.specs.Sought.{is_about, heads_within}
 
 -- both laboratories have a record of the sample S1; one of them is sought

@@ -1,4 +1,3 @@
-pub mod Chains
 pub mod Heads
 pub mod Laboratories
 pub mod Leaves
@@ -6,3 +5,4 @@ pub mod Readable
 pub mod Retrieved
 pub mod Shown
 pub mod Sought
+pub mod Private

@@ -9,8 +9,6 @@ use Rattle.lab_forms_texts.specs.Ordinals.{is_ordinal}
 use Rattle.lab_store_tables.specs.Rows.{Tables, optional_in}
 use Rattle.lab_store_tables.specs.Meaning.{Leaf}
 use Rattle.lab_store_read.specs.Cells.{is_id, is_number, is_small, is_text_cell, is_digest, is_optional, stands}
-use Rattle.lab_store_read.specs.Shown.{codes_shown, shows_code}
-use Rattle.lab_store_read_records.specs.declared.heads.EntryHead.{EntryHead}
 use Rattle.lab_store_read_records.specs.Shown.{version_read, entries_shown, signatures_shown}
 
 -- of any size
@@ -42,19 +40,6 @@ pub record HasVersionColumns (row : Row) : Type 0 where
   pub opener : IsTrue (stands (is_text_cell is_person_code) row 3)
   pub opened : IsTrue (stands (is_number is_moment) row 4)
   pub reason : IsTrue (stands (is_optional (is_text_cell is_note)) row 5)
-
--- the own row of an entry
-pub record HasOwnEntry (row : Row) : Type 0 where
-  pub key : IsTrue (stands (is_text_cell is_key) row 0)
-  pub value : IsTrue (stands (is_text_cell is_note) row 1)
-  pub unit : IsTrue (stands (is_text_cell is_unit) row 2)
-  pub person : IsTrue (stands is_id row 3)
-  pub moment : IsTrue (stands (is_number is_moment) row 4)
-  pub reason : IsTrue (stands (is_optional (is_text_cell is_note)) row 5)
-
--- the code of whoever entered it
-abbrev pub HasWriter : Tables → EntryHead → Type 0
-HasWriter t head = IsTrue (shows_code (codes_shown t head.person))
 
 -- an entry with its person's code
 pub record HasEntry (row : Row) : Type 0 where

@@ -5,7 +5,7 @@ ghost use Rattle.lab_store_tables.specs.Columns.{format_in};
 ghost use Rattle.lab_store_tables.specs.Meaning.{version_after, chained};
 ghost use Rattle.lab_store_read_records.specs.Leaves.{leaf_of};
 ghost use Rattle.lab_store_read.specs.Cells.{storage};
-ghost use Rattle.lab_store_read_records.specs.Chains.{origin_after, before_next};
+ghost use Rattle.lab_store_read_records.specs.Private.Chains.{origin_after, before_next};
 ghost use Rattle.lab_store_read_records.specs.Readable.{is_placed, ArePlaced};
 
 use crate::VersionLeaf;

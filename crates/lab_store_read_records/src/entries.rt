@@ -6,9 +6,11 @@ ghost use Rattle.lab_store_read.specs.Causes.{HasItsCause};
 ghost use Rattle.lab_store_read.specs.Cells.{storage};
 ghost use Rattle.lab_store_read.specs.Known.{AreKnown};
 ghost use Rattle.lab_store_read.specs.Reads.{Reads, MayRead};
-ghost use Rattle.lab_store_read_records.specs.Heads.{entry_heads_of, entry_by};
-ghost use Rattle.lab_store_read_records.specs.Readable.{HasEntry, HasOwnEntry, HasWriter};
-ghost use Rattle.lab_store_read_records.specs.Shown.{entries_shown, own_entries_shown, own_entry_read};
+ghost use Rattle.lab_store_read_records.specs.Private.Heads.{entry_heads_of, entry_by};
+ghost use Rattle.lab_store_read_records.specs.Readable.{HasEntry};
+ghost use Rattle.lab_store_read_records.specs.Private.Readable.{HasOwnEntry, HasWriter};
+ghost use Rattle.lab_store_read_records.specs.Shown.{entries_shown};
+ghost use Rattle.lab_store_read_records.specs.Private.Shown.{own_entries_shown, own_entry_read};
 
 use crate::heads::EntryHead;
 use lab_seal_versions::EntryRow;

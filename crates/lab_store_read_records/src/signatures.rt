@@ -3,7 +3,8 @@
 ghost use Rattle.std.specs.Prelude.{◌≡◌, map, All, IfOk, IfErr, IfSome, IfNone, IsFalse};
 ghost use Rattle.lab_store_tables.specs.Columns.{meaning_in};
 ghost use Rattle.lab_store_tables.specs.Meaning.{signatures_of};
-ghost use Rattle.lab_store_read_records.specs.Shown.{signatures_shown, signature_read};
+ghost use Rattle.lab_store_read_records.specs.Shown.{signatures_shown};
+ghost use Rattle.lab_store_read_records.specs.Private.Shown.{signature_read};
 ghost use Rattle.sqlite_value.specs.Order.{column, bytes};
 ghost use Rattle.lab_store_tables.specs.Rows.{optional_in};
 ghost use Rattle.lab_store_read.specs.Causes.{HasItsCause};

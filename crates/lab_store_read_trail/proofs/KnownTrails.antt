@@ -4,9 +4,9 @@ use Rattle.std.specs.Prelude.{codes}
 use Rattle.lab_records_kept.specs.declared.trails.TrailRow.{TrailRow as Told}
 use Rattle.lab_store_tables.proofs.KnownFile.{file}
 use Rattle.lab_store_read_trail.specs.declared.heads.ToldHead.{ToldHead}
-use Rattle.lab_store_read.specs.Known.{code_among, known_by}
+use Rattle.lab_store_read.specs.Private.Known.{code_among, known_by}
 use Rattle.lab_store_read_trail.specs.Shown.{told_read, told_shown_within}
-use Rattle.lab_store_read_trail.specs.Trails.{told_by, told_heads_within}
+use Rattle.lab_store_read_trail.specs.Private.Trails.{told_by, told_heads_within}
 
 -- by their numbers, and not as they stand in the table, both ends with them; nobody did what the machine did
 pub known_trail :

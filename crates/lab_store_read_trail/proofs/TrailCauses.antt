@@ -10,7 +10,7 @@ use Rattle.lab_store_read.proofs.Causes.{Fits, fits_by}
 use Rattle.lab_store_read.proofs.Texts.{is_param, own_query, range_tests}
 use Rattle.lab_store_read_trail.specs.Readable.{HasTold, HasDoer, HasWholeTold}
 use Rattle.lab_store_read_trail.specs.Shown.{told_shown_within, told_read}
-use Rattle.lab_store_read_trail.specs.Trails.{told_heads_within}
+use Rattle.lab_store_read_trail.specs.Private.Trails.{told_heads_within}
 use Rattle.lab_store_read_trail.proofs.Texts.{told_text, told_columns}
 use Rattle.lab_store_read_trail.proofs.TrailsFound.{told_found}
 

@@ -9,7 +9,7 @@ use Rattle.lab_records_kept.specs.Lookups.{is_within, rows_within}
 use Rattle.lab_store_tables.specs.Rows.{TrailRow, Tables}
 use Rattle.lab_store_tables.specs.Meaning.{told_in, trail_of, by_trail}
 use Rattle.lab_store_read_trail.specs.declared.heads.ToldHead.{ToldHead}
-use Rattle.lab_store_read_trail.specs.Trails.{told_head, told_heads_within, told_by}
+use Rattle.lab_store_read_trail.specs.Private.Trails.{told_head, told_heads_within, told_by}
 use Rattle.lab_store_read_trail.specs.Shown.{told_shown, told_shown_within, told_read}
 use Rattle.lab_store_read.proofs.Found.{id_back}
 use Rattle.lab_store_read.proofs.Lists.{both_filtered}

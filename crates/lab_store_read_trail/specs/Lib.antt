@@ -1,3 +1,4 @@
 pub mod Readable
 pub mod Shown
 pub mod Trails
+pub mod Private

@@ -8,7 +8,7 @@ ghost use Rattle.lab_store_read.specs.Cells.{storage};
 ghost use Rattle.lab_store_read.specs.Reads.{Reads, MayRead};
 ghost use Rattle.lab_store_read.specs.Known.{AreKnown};
 ghost use Rattle.lab_store_read_trail.specs.Readable.{HasTold, HasDoer, HasWholeTold};
-ghost use Rattle.lab_store_read_trail.specs.Trails.{told_heads_within, told_by};
+ghost use Rattle.lab_store_read_trail.specs.Private.Trails.{told_heads_within, told_by};
 ghost use Rattle.lab_store_read_trail.specs.Shown.{told_shown_within, told_read};
 
 use crate::actions::action_by;

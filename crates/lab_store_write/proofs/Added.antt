@@ -10,7 +10,8 @@ use Rattle.lab_store_tables.specs.Ready.{tables_of}
 use Rattle.lab_store_tables.specs.Family.{Sessions}
 use Rattle.lab_store_write.specs.Calls.{Steps, Finds, MadeFrom}
 use Rattle.lab_store_write.proofs.Inside.{steps_then}
-use Rattle.lab_store_write.specs.Added.{with_session, SetsIfAny}
+use Rattle.lab_store_write.specs.Added.{with_session}
+use Rattle.lab_store_write.specs.Private.Added.{SetsIfAny}
 
 -- a session: whose it is, the row, and the counter
 pub session_added : (lab : ℤ) (K : Tables → Type 0) (session : Session) (person : ℤ) (a b c d : State)

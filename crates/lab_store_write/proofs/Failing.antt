@@ -12,7 +12,9 @@ use Rattle.lab_store_tables.specs.Rows.{Tables}
 use Rattle.lab_store_tables.specs.Held.{IsTyped}
 use Rattle.lab_store_tables.specs.Ready.{tables_of}
 use Rattle.lab_store_read.specs.Faults.{is_out_of_memory}
-use Rattle.lab_store_write.specs.Causes.{is_reading, is_writing, statement, Statement, Tries, Anything, IsVain, IsUnread, IsUnnamed, IsOurs, IsRefused, IsNamedInVain, RunsInside, FailsTrying, FailsBy}
+use Rattle.lab_store_write.specs.Causes.{is_reading, is_writing, statement, Statement, Tries, Anything, IsUnread, IsUnnamed, IsOurs, IsRefused, IsNamedInVain, RunsInside, FailsTrying}
+use Rattle.lab_store_write.specs.Private.Causes.{IsVain}
+use Rattle.lab_store_write.proofs.AnyEndings.{FailsBy}
 use Rattle.lab_store_write.proofs.Inside.{none_then}
 
 pub unmoved : (s : State) → Survives s s (λ _. ⊥)

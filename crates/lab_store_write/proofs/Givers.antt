@@ -7,7 +7,8 @@ use Rattle.lab_store_tables.specs.Changes.{InTurn, is_person}
 use Rattle.lab_store_write.specs.declared.named.Giver.{Giver}
 use Rattle.lab_store_write.specs.Calls.{AnswersUnlessTrying, AnswersUnless, MadeFrom}
 use Rattle.lab_store_write.specs.Causes.{Tries}
-use Rattle.lab_store_write.specs.Givers.{Knows, EachKnowing}
+use Rattle.lab_store_write.specs.Givers.{Knows}
+use Rattle.lab_store_write.specs.Private.Givers.{EachKnowing}
 use Rattle.lab_store_write.specs.Tried.{TriedFrom}
 use Rattle.lab_store_write.proofs.Inside.{steps_weaker}
 use Rattle.lab_store_write.proofs.Writers.{answers_as, tries_as, untold}

@@ -17,7 +17,7 @@ use Rattle.lab_store_read.proofs.Sorted.{and_true}
 use Rattle.lab_store_write.specs.Calls.{Steps, Finds}
 use Rattle.lab_store_write.specs.Causes.{is_reading, IsOurs}
 use Rattle.lab_store_write.specs.Ids.{id_read}
-use Rattle.lab_store_write.specs.Shown.{persons_shown}
+use Rattle.lab_store_write.specs.Private.Shown.{persons_shown}
 use Rattle.lab_store_write.proofs.Inside.{steps_weaker, steps_none}
 use Rattle.lab_store_write.proofs.Ours.{ours}
 use Rattle.lab_store_write.proofs.Lookups.{by_key_query, rows_by_key, first_key}

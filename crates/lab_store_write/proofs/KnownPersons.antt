@@ -5,7 +5,7 @@ use Rattle.std.specs.Prelude.{codes}
 use Rattle.sqlite_value.specs.declared.value.Value.TheVariants.{Null, Int, Text, Blob}
 use Rattle.lab_store_tables.proofs.KnownFile.{filled}
 use Rattle.lab_store_tables.proofs.KnownValues.{eve}
-use Rattle.lab_store_write.specs.Persons.{password_cells, ask_cells}
+use Rattle.lab_store_write.specs.Private.Persons.{password_cells, ask_cells}
 use Rattle.lab_store_write.proofs.PersonWords.{person_given}
 
 -- eve, for whom the person of the row 4 asked: the second verifier of a one-time password is NULL

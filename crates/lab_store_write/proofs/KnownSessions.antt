@@ -4,7 +4,8 @@ use Rattle.std.proofs.Common.{◌≡◌, ◌++◌, pos, true, false, [], ◌∷�
 use Rattle.std.specs.Prelude.{codes}
 use Rattle.lab_people_access.specs.declared.sessions.Session.{Session}
 use Rattle.lab_store_tables.proofs.KnownFile.{filled, file, session}
-use Rattle.lab_store_write.specs.Added.{with_session, SetsIfAny}
+use Rattle.lab_store_write.specs.Added.{with_session}
+use Rattle.lab_store_write.specs.Private.Added.{SetsIfAny}
 use Rattle.sqlite_value.specs.declared.value.Value.TheVariants.{Int}
 use Rattle.sqlite_value.specs.Order.{Row}
 use Rattle.lab_people_access.specs.declared.sessions.Closing.TheVariants.{Nothing, All, Others}

@@ -6,7 +6,7 @@ use Rattle.sqlite_value.specs.declared.value.Value.TheVariants.{Int}
 use Rattle.sqlite_value.specs.Order.{Row}
 use Rattle.lab_store_tables.proofs.KnownFile.{file, told}
 use Rattle.lab_store_write.specs.Ids.{id_read}
-use Rattle.lab_store_write.specs.Shown.{persons_shown}
+use Rattle.lab_store_write.specs.Private.Shown.{persons_shown}
 use Rattle.lab_records_kept.specs.declared.trails.Action.TheVariants.{Lock}
 use Rattle.lab_records_kept.specs.declared.trails.TrailRow.{TrailRow as Told}
 use Rattle.lab_records_kept.proofs.KnownDefaults.{bare_told}

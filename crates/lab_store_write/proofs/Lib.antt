@@ -1,4 +1,5 @@
 pub mod Added
+pub mod AnyEndings
 pub mod ClosedAlike
 pub mod ClosingLemmas
 pub mod ClosingWrites
@@ -16,6 +17,7 @@ pub mod KnownValues
 pub mod LabWrites
 pub mod Later
 pub mod Lookups
+pub mod NothingTried
 pub mod Ours
 pub mod PersonLemmas
 pub mod PersonWords

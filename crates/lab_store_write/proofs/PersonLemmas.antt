@@ -15,7 +15,7 @@ use Rattle.lab_store_tables.specs.Family.{Persons}
 use Rattle.lab_store_write.specs.declared.statements.RowId.{RowId}
 use Rattle.lab_store_write.specs.Calls.{Steps, Finds, MadeFrom}
 use Rattle.lab_store_write.specs.Ids.{row_id}
-use Rattle.lab_store_write.specs.Persons.{password_cells, ask_cells, with_person}
+use Rattle.lab_store_write.specs.Private.Persons.{password_cells, ask_cells, with_person}
 use Rattle.lab_store_write.proofs.PersonWords.{person_given}
 use Rattle.lab_store_write.proofs.PersonWrites.{person_values}
 

@@ -7,7 +7,7 @@ use Rattle.lab_store_tables.specs.Rows.{number, flag, optional}
 use Rattle.lab_store_write.specs.Ids.{row_id}
 use Rattle.lab_store_write.specs.declared.passwords.PasswordCells.{PasswordCells}
 use Rattle.lab_store_write.specs.declared.passwords.AskCells.{AskCells}
-use Rattle.lab_store_write.specs.Persons.{salt_in, rounds_in, made_in}
+use Rattle.lab_store_write.specs.Private.Persons.{salt_in, rounds_in, made_in}
 
 -- the columns of a person's row but its ids, of what they are made of
 abbrev pub person_given : ℤ → Person → ℕ → PasswordCells → AskCells → Row

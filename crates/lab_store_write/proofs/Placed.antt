@@ -8,7 +8,8 @@ use Rattle.lab_store_tables.specs.Rows.{Tables}
 use Rattle.lab_store_tables.specs.Held.{IsTyped}
 use Rattle.lab_store_tables.specs.Ready.{tables_of}
 use Rattle.lab_store_write.specs.declared.statements.RowId.{RowId}
-use Rattle.lab_store_write.specs.Calls.{Stays, AnswersTrying, AnswersCall}
+use Rattle.lab_store_write.specs.Calls.{Stays, AnswersTrying}
+use Rattle.lab_store_write.specs.Private.Calls.{AnswersCall}
 use Rattle.lab_store_write.specs.Causes.{is_writing, statement, Statement, Tries, Anything, FailsTrying, IsOurs}
 use Rattle.lab_store_write.specs.Tried.{Only}
 use Rattle.lab_store_write.proofs.Failing.{fails_trying}

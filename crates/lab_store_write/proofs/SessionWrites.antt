@@ -37,7 +37,7 @@ use Rattle.lab_store_write.proofs.Inserts.{adds, adds_ours}
 use Rattle.lab_store_write.proofs.Updates.{IsUpdate, given, sets_where}
 use Rattle.lab_store_write.proofs.Inside.{Wrote}
 use Rattle.lab_store_write.proofs.Ours.{ours}
-use Rattle.lab_store_write.specs.Added.{SetsIfAny}
+use Rattle.lab_store_write.specs.Private.Added.{SetsIfAny}
 use Rattle.lab_store_tables.proofs.Comparing.{equal_ints, text_is, text_alike, equal_blobs, ids_differ}
 pub use Rattle.lab_store_write.specs.Statements.{add_session_text, set_session_text, set_session_values}
 

@@ -11,7 +11,8 @@ use Rattle.lab_store_tables.specs.Ready.{tables_of}
 use Rattle.lab_store_tables.specs.Family.{Trail}
 use Rattle.lab_store_write.specs.Calls.{Steps, Finds, MadeFrom}
 use Rattle.lab_store_write.proofs.Inside.{steps_weaker}
-use Rattle.lab_store_write.specs.TrailAdded.{with_told, with_last, with_count, AddsLastTold}
+use Rattle.lab_store_write.specs.TrailAdded.{with_told, with_last, AddsLastTold}
+use Rattle.lab_store_write.specs.Private.TrailAdded.{with_count}
 
 -- ---- the last moment is set with the counter
 

@@ -16,8 +16,10 @@ use Rattle.lab_store_tables.specs.Held.{IsTyped}
 use Rattle.lab_store_read.specs.Causes.{IsCaused}
 use Rattle.lab_store_read.specs.Cells.{storage}
 use Rattle.lab_store_read.specs.Faults.{is_out_of_memory, store_fault}
-use Rattle.lab_store_write.specs.Causes.{Tries, Anything, EndsTrying, FailsTrying, FailsBy}
-use Rattle.lab_store_write.specs.Transactions.{EndsForCauseTrying, FailsWithin, HasOurTables, StaysAsIs, TransactionEndsForCause, TransactionEndsForCauseTrying}
+use Rattle.lab_store_write.specs.Causes.{Tries, Anything, EndsTrying, FailsTrying}
+use Rattle.lab_store_write.proofs.AnyEndings.{FailsBy}
+use Rattle.lab_store_write.specs.Transactions.{EndsForCauseTrying, FailsWithin, HasOurTables, StaysAsIs}
+use Rattle.lab_store_write.specs.Private.Transactions.{TransactionEndsForCause, TransactionEndsForCauseTrying}
 
 -- ---- what is told of an error
 

@@ -13,8 +13,11 @@ use Rattle.lab_store_tables.specs.Changes.{InTurn}
 use Rattle.lab_store_tables.specs.Held.{IsTyped}
 use Rattle.lab_store_tables.specs.Ready.{tables_of}
 use Rattle.lab_store_read.proofs.Queries.{IsRead, if_then}
-use Rattle.lab_store_write.specs.Calls.{Steps, Stays, AnswersUnlessTrying, AnswersUnless, AnswersCall, Writes, Becomes, Finds, MadeFrom, CountsBelow}
-use Rattle.lab_store_write.specs.Causes.{is_reading, is_writing, statement, Statement, Tries, Anything, IsVain, IsOurs, IsShown, IsRun, RunsInside, FailsTrying, FailsBy}
+use Rattle.lab_store_write.specs.Calls.{Steps, Stays, AnswersUnlessTrying, AnswersUnless, Finds, MadeFrom, CountsBelow}
+use Rattle.lab_store_write.specs.Private.Calls.{AnswersCall, Writes, Becomes}
+use Rattle.lab_store_write.specs.Causes.{is_reading, is_writing, statement, Statement, Tries, Anything, IsOurs, IsShown, IsRun, RunsInside, FailsTrying}
+use Rattle.lab_store_write.specs.Private.Causes.{IsVain}
+use Rattle.lab_store_write.proofs.AnyEndings.{FailsBy}
 use Rattle.lab_store_write.proofs.Failing.{unmoved, still_on, fails_here, ran_badly, ran_badly_by, asked_badly_by, fails_trying, fails_behind_by}
 use Rattle.lab_store_write.proofs.Inside.{Wrote, made_as, steps_weaker, steps_then, found_then, known_then, keeps_then, none_then, turns_none, turns_more}
 use Rattle.lab_store_write.proofs.Lookups.{looked, looked_keeps}

@@ -39,10 +39,6 @@ FailsForTrying Beside tries state old new result =
     IsTrue (state old).in_transaction → HasCleanDisk (state new) → IsTyped (state old).now
     → IfErr result (λ e. Beside e ⊎ FailsTrying tries state old new e)
 
-abbrev pub FailsFor : (Error → Type 0) → {T A : Type 0} → (T → State) → T → T → Result A Error
-    → Type 0
-FailsFor Beside state old new result = FailsForTrying Beside Anything state old new result
-
 -- so does a call that answers; where a transaction was under way and it answered well, it made the
 -- step that belongs to the answer
 pub record AnswersUnlessTrying (Beside : Error → Type 0) (tries : Tries) {T A : Type 0}
@@ -58,21 +54,11 @@ abbrev pub AnswersUnless : (Error → Type 0) → {T A : Type 0} → (T → ℕ 
 AnswersUnless Beside lender state step old new result =
     AnswersUnlessTrying Beside Anything lender state step old new result
 
-abbrev pub AnswersCall : {T A : Type 0} → (T → ℕ × ℕ) → (T → State)
-    → (A → Tables → Tables → Type 0) → T → T → Result A Error → Type 0
-AnswersCall lender state step old new result =
-    AnswersUnless (λ _. ⊥) lender state step old new result
-
 -- by statements that are told
 abbrev pub AnswersTrying : Tries → {T A : Type 0} → (T → ℕ × ℕ) → (T → State)
     → (A → Tables → Tables → Type 0) → T → T → Result A Error → Type 0
 AnswersTrying tries lender state step old new result =
     AnswersUnlessTrying (λ _. ⊥) tries lender state step old new result
-
--- a call that makes one step, whatever it answers
-abbrev pub Writes : {T A : Type 0} → (T → ℕ × ℕ) → (T → State) → (Tables → Tables → Type 0)
-    → T → T → Result A Error → Type 0
-Writes lender state step old new result = AnswersCall lender state (λ _. step) old new result
 
 abbrev pub WritesTrying : Tries → {T A : Type 0} → (T → ℕ × ℕ) → (T → State)
     → (Tables → Tables → Type 0) → T → T → Result A Error → Type 0
@@ -88,10 +74,6 @@ abbrev pub WritesUnlessTrying : (Error → Type 0) → Tries → {T A : Type 0} 
     → (T → State) → (Tables → Tables → Type 0) → T → T → Result A Error → Type 0
 WritesUnlessTrying Beside tries lender state step old new result =
     AnswersUnlessTrying Beside tries lender state (λ _. step) old new result
-
--- a step that makes these tables of those before
-abbrev pub Becomes : (Tables → Tables) → Tables → Tables → Type 0
-Becomes made before after = after ≡ made before
 
 -- a step that finds this true of the tables and leaves them as they are
 abbrev pub Finds : (Tables → Type 0) → Tables → Tables → Type 0

@@ -28,11 +28,6 @@ shows_id row = stands is_id row 0
 abbrev pub names_one : List Row → Bool
 names_one rows = option_map_or shows_id (slice_get rows 0) false
 
--- none is named by these rows, or memory ran out for it
-abbrev pub IsVain : List Row → Error → Type 0
-IsVain rows e =
-    IsTrue (is_out_of_memory e) ⊎ ((e ≡ QueryReturnedNoRows) × IsFalse (names_one rows))
-
 -- why an id isn't read of a row, and none of the first of some rows
 abbrev pub IsUnread : Row → Error → Type 0
 IsUnread row e = IsTrue (is_out_of_memory e) ⊎ IsFalse (shows_id row)
@@ -129,13 +124,6 @@ pub record EndsTrying (tries : Tries) {T : Type 0} (state : T → State) (old ne
 
 abbrev pub FailsTrying : Tries → {T : Type 0} → (T → State) → T → T → Error → Type 0
 FailsTrying tries state old new e = IsTrue (is_out_of_memory e) ⊎ EndsTrying tries state old new e
-
--- it isn't said which
-abbrev pub EndsBy : {T : Type 0} → (T → State) → T → T → Error → Type 0
-EndsBy state old new e = EndsTrying Anything state old new e
-
-abbrev pub FailsBy : {T : Type 0} → (T → State) → T → T → Error → Type 0
-FailsBy state old new e = FailsTrying Anything state old new e
 
 -- no column holds a number as great as this
 abbrev pub IsTooGreat : ℕ → Type 0

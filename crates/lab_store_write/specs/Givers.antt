@@ -3,14 +3,8 @@ use Rattle.std.specs.Prelude.{◌≡◌, ℤ, Option, Some, None}
 use Rattle.lab_store_tables.specs.Rows.{Tables}
 use Rattle.lab_store_tables.specs.Changes.{person_named}
 use Rattle.lab_store_write.specs.declared.named.Giver.{Giver}
-use Rattle.lab_store_write.specs.Calls.{MadeFrom}
 
 -- whoever is known is a person of the laboratory, by this code and this id
 abbrev pub Knows : ℤ → Option Giver → Tables → Type 0
 Knows lab None t = Unit {0}
 Knows lab (Some giver) t = person_named t lab giver.code.now ≡ Some giver.id.id
-
--- the step of each item, made from tables in which whoever is known is so
-abbrev pub EachKnowing : {A : Type 0} → ℤ → Option Giver → (A → Tables → Tables → Type 0) → A
-    → Tables → Tables → Type 0
-EachKnowing lab giver step one = MadeFrom (Knows lab giver) (step one)

@@ -4,9 +4,8 @@ pub mod Causes
 pub mod Closings
 pub mod Givers
 pub mod Ids
-pub mod Persons
-pub mod Shown
 pub mod Statements
 pub mod TrailAdded
 pub mod Transactions
 pub mod Tried
+pub mod Private

@@ -14,11 +14,6 @@ abbrev pub with_last : ℤ → Option ℕ → Tables → Tables
 with_last lab None t = t
 with_last lab (Some moment) t = in_lab lab (λ (one : LabRow). record one { last = moment }) t
 
--- then it has so many rows of its trail
-abbrev pub with_count : ℤ → Option ℕ → ℕ → Tables → Tables
-with_count lab last count t =
-    in_lab lab (λ (one : LabRow). record one { trail = count }) (with_last lab last t)
-
 -- the laboratory has this last moment, if one is given, and then a row of the trail more
 abbrev pub AddsLastTold : ℤ → Option ℕ → Told → Tables → Tables → Type 0
 AddsLastTold lab last told old new = AddsTold lab told (with_last lab last old) new

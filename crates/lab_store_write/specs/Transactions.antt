@@ -58,14 +58,3 @@ abbrev pub EndsForCause : {S T E : Type 0} → Ghosts S → (E → Type 0) → T
     → Result T E → Type 0
 EndsForCause g IsTold Beside old new result =
     EndsForCauseTrying Anything g IsTold Beside old new result
-
--- so does one that tells its error, which isn't want of memory
-abbrev pub TransactionEndsForCauseTrying : Tries → {S T : Type 0} → Ghosts S → Type 0 → Held S
-    → Held S → Result T Error → Type 0
-TransactionEndsForCauseTrying tries g Beside old new result =
-    EndsForCauseTrying tries g (λ e. IsFalse (is_out_of_memory e)) Beside old new result
-
-abbrev pub TransactionEndsForCause : {S T : Type 0} → Ghosts S → Type 0 → Held S → Held S
-    → Result T Error → Type 0
-TransactionEndsForCause g Beside old new result =
-    TransactionEndsForCauseTrying Anything g Beside old new result

@@ -24,10 +24,6 @@ Over one t tried at = (tried ≡ one) × (at ≡ t)
 abbrev pub Only : Statement → Tries
 Only one old tried at = Over one old tried at
 
--- none at all
-abbrev pub Never : Tries
-Never old tried at = ⊥
-
 -- what is tried where this is true of the tables before the call
 abbrev pub TriedFrom : (Tables → Type 0) → Tries → Tries
 TriedFrom P tries old tried at = P old → tries old tried at

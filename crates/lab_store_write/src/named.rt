@@ -7,7 +7,7 @@ ghost use Rattle.lab_store_write.specs.Calls.{AnswersTrying, Finds};
 ghost use Rattle.lab_store_write.specs.Causes.{IsShown, IsUnread, IsUnnamed};
 ghost use Rattle.lab_store_write.specs.Givers.{Knows};
 ghost use Rattle.lab_store_write.specs.Ids.{row_id, id_read};
-ghost use Rattle.lab_store_write.specs.Shown.{persons_shown};
+ghost use Rattle.lab_store_write.specs.Private.Shown.{persons_shown};
 ghost use Rattle.lab_store_write.specs.Statements.{asking_person};
 ghost use Rattle.lab_store_write.specs.Tried.{Only, TriesIfAny};
 

@@ -6,7 +6,7 @@ ghost use Rattle.sqlite_value.specs.Value.{owned};
 ghost use Rattle.sqlite.specs.Values.{bound_value};
 ghost use Rattle.lab_store_tables.specs.Rows.{number, optional};
 ghost use Rattle.lab_store_tables.specs.Columns.{roles_sum};
-ghost use Rattle.lab_store_write.specs.Persons.{password_cells, ask_cells, salt_in, rounds_in, made_in};
+ghost use Rattle.lab_store_write.specs.Private.Persons.{password_cells, ask_cells, salt_in, rounds_in, made_in};
 
 use crate::RowId;
 use lab_forms_texts::Moment;

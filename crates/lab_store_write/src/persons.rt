@@ -2,10 +2,11 @@
 
 ghost use Rattle.std.specs.Prelude.{option_map};
 ghost use Rattle.lab_store_tables.specs.Changes.{IsNamedIfAny, AddsPerson, SetsPerson, person_row_of, set_person as with_row};
-ghost use Rattle.lab_store_write.specs.Calls.{AnswersTrying, WritesTrying, Becomes, Finds, MadeFrom};
+ghost use Rattle.lab_store_write.specs.Calls.{AnswersTrying, WritesTrying, Finds, MadeFrom};
+ghost use Rattle.lab_store_write.specs.Private.Calls.{Becomes};
 ghost use Rattle.lab_store_write.specs.Givers.{Knows};
 ghost use Rattle.lab_store_write.specs.Ids.{row_id};
-ghost use Rattle.lab_store_write.specs.Persons.{asker_in, with_person};
+ghost use Rattle.lab_store_write.specs.Private.Persons.{asker_in, with_person};
 ghost use Rattle.lab_store_write.specs.Statements.{adding_person, setting_person};
 ghost use Rattle.lab_store_write.specs.Tried.{Only, TriedFrom, TriesIfAny, TriesToAddPerson, TriesToSetPerson};
 

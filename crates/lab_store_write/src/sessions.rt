@@ -4,10 +4,12 @@ ghost use Rattle.std.specs.Prelude.{IfOk, IsTrue};
 ghost use Rattle.sqlite.specs.State.{HasCleanDisk};
 ghost use Rattle.lab_store_tables.specs.Rows.{LabRow};
 ghost use Rattle.lab_store_tables.specs.Changes.{in_lab, AddsSession, SetsSession};
-ghost use Rattle.lab_store_write.specs.Calls.{AnswersTrying, WritesTrying, Becomes, MadeFrom};
+ghost use Rattle.lab_store_write.specs.Calls.{AnswersTrying, WritesTrying, MadeFrom};
+ghost use Rattle.lab_store_write.specs.Private.Calls.{Becomes};
 ghost use Rattle.lab_store_write.specs.Causes.{IsRun};
 ghost use Rattle.lab_store_write.specs.Givers.{Knows};
-ghost use Rattle.lab_store_write.specs.Added.{with_session, SetsIfAny};
+ghost use Rattle.lab_store_write.specs.Added.{with_session};
+ghost use Rattle.lab_store_write.specs.Private.Added.{SetsIfAny};
 ghost use Rattle.lab_store_write.specs.Statements.{adding_session, counting_sessions, setting_session};
 ghost use Rattle.lab_store_write.specs.Tried.{Only, TriedFrom, TriesToAddSession, TriesToSetSession};
 

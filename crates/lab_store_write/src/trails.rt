@@ -1,10 +1,12 @@
 //! Rows of the trail.
 
 ghost use Rattle.std.specs.Prelude.{option_map};
-ghost use Rattle.lab_store_write.specs.Calls.{WritesTrying, Becomes, MadeFrom};
+ghost use Rattle.lab_store_write.specs.Calls.{WritesTrying, MadeFrom};
+ghost use Rattle.lab_store_write.specs.Private.Calls.{Becomes};
 ghost use Rattle.lab_store_write.specs.Givers.{Knows};
 ghost use Rattle.lab_store_write.specs.Ids.{row_id};
-ghost use Rattle.lab_store_write.specs.TrailAdded.{with_told, with_count, AddsLastTold};
+ghost use Rattle.lab_store_write.specs.TrailAdded.{with_told, AddsLastTold};
+ghost use Rattle.lab_store_write.specs.Private.TrailAdded.{with_count};
 ghost use Rattle.lab_store_write.specs.Statements.{adding_told, counting_trail};
 ghost use Rattle.lab_store_write.specs.Tried.{Only, TriedFrom, TriesToAddTold};
 

@@ -11,8 +11,9 @@ use Rattle.lab_store_tables.specs.Changes.{person_named, put_entry, put_signatur
 use Rattle.lab_store_tables.specs.Ready.{tables_of}
 use Rattle.lab_store_tables.specs.Family.{Entries, Signatures}
 use Rattle.lab_store_write.specs.Calls.{Steps, Finds, MadeFrom}
-use Rattle.lab_store_write_changes.specs.VersionsShown.{is_entry_of, is_signature_of, current_of, version_in_record}
-use Rattle.lab_store_write_changes.specs.EntriesAdded.{entry_at, with_entry, signature_at, with_signature}
+use Rattle.lab_store_write_changes.specs.Private.VersionsShown.{is_entry_of, is_signature_of}
+use Rattle.lab_store_write_changes.specs.VersionsShown.{current_of, version_in_record}
+use Rattle.lab_store_write_changes.specs.Private.EntriesAdded.{entry_at, with_entry, signature_at, with_signature}
 
 -- an entry: whose it is, its place, and the row
 pub entry_added : (lab : ℤ) (K : Tables → Type 0) (version : ℤ) (one : Entry) (person : ℤ) (place : ℕ) (a b c d : State)

@@ -20,7 +20,7 @@ use Rattle.lab_store_write.specs.Causes.{is_reading, IsOurs}
 use Rattle.lab_store_write.proofs.Inside.{steps_weaker}
 use Rattle.lab_store_write.proofs.Lookups.{by_key_query, rows_by_key, first_key}
 use Rattle.lab_store_write.proofs.Ours.{ours}
-use Rattle.lab_store_write_changes.specs.VersionsShown.{records_shown, is_entry_of, is_signature_of}
+use Rattle.lab_store_write_changes.specs.Private.VersionsShown.{records_shown, is_entry_of, is_signature_of}
 use Rattle.lab_store_write_changes.proofs.VersionsShownWords.{entries_shown, signatures_shown}
 use Rattle.lab_store_tables.proofs.Comparing.{equal_ints}
 pub use Rattle.lab_store_write_changes.specs.Statements.{record_text, entries_text, signatures_text}

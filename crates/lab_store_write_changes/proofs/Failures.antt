@@ -10,7 +10,8 @@ use Rattle.lab_records_kept.specs.declared.changes.Change.TheVariants.{Last, Tra
 use Rattle.lab_records_kept.specs.declared.trails.TrailRow.{TrailRow as Told}
 use Rattle.lab_store_tables.specs.Rows.{Tables}
 use Rattle.lab_store_tables.specs.Ready.{tables_of}
-use Rattle.lab_store_write.specs.Causes.{Statement, Tries, FailsTrying, FailsBy}
+use Rattle.lab_store_write.specs.Causes.{Statement, Tries, FailsTrying}
+use Rattle.lab_store_write.proofs.AnyEndings.{FailsBy}
 use Rattle.lab_store_write.proofs.Failing.{fails_trying, fails_behind, fails_behind_by}
 use Rattle.lab_store_write_changes.specs.Causes.{IsTooMuch, OneIsTooMuch}
 use Rattle.lab_store_write_changes.specs.Framed.{IsFramed}

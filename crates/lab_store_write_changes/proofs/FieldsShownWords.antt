@@ -3,7 +3,7 @@ use Rattle.std.specs.Prelude.{ℤ, List, [], ◌∷◌, map, filter}
 use Rattle.sqlite_value.specs.declared.value.Value.TheVariants.{Int}
 use Rattle.sqlite_value.specs.Order.{Row}
 use Rattle.lab_store_tables.specs.Rows.{FieldRow, ChoiceRow, Tables}
-use Rattle.lab_store_write_changes.specs.FieldsShown.{is_field_of, is_choice_of}
+use Rattle.lab_store_write_changes.specs.Private.FieldsShown.{is_field_of, is_choice_of}
 
 abbrev pub fields_shown : ℤ → Tables → List Row
 fields_shown form t =

@@ -16,7 +16,7 @@ use Rattle.lab_store_read.proofs.Sorted.{and_true}
 use Rattle.lab_store_write.specs.Causes.{is_reading, IsOurs}
 use Rattle.lab_store_write.proofs.Lookups.{by_key_query, rows_by_key}
 use Rattle.lab_store_write.proofs.Ours.{ours}
-use Rattle.lab_store_write_changes.specs.FieldsShown.{is_field_of, is_choice_of}
+use Rattle.lab_store_write_changes.specs.Private.FieldsShown.{is_field_of, is_choice_of}
 use Rattle.lab_store_write_changes.proofs.FieldsShownWords.{fields_shown, choices_shown}
 use Rattle.lab_store_tables.proofs.Comparing.{equal_ints}
 pub use Rattle.lab_store_write_changes.specs.Statements.{fields_text, choices_text}

@@ -11,8 +11,9 @@ use Rattle.lab_store_tables.specs.Changes.{InTurn, IsFree, put_form, form_row_of
 use Rattle.lab_store_tables.specs.Ready.{tables_of}
 use Rattle.lab_store_tables.specs.Family.{Forms, Fields, Choices}
 use Rattle.lab_store_write.specs.Calls.{Steps, Finds}
-use Rattle.lab_store_write_changes.specs.FieldsShown.{is_field_of, is_choice_of}
-use Rattle.lab_store_write_changes.specs.FormsAdded.{choice_at, with_choice, field_at, with_field, with_form}
+use Rattle.lab_store_write_changes.specs.Private.FieldsShown.{is_field_of, is_choice_of}
+use Rattle.lab_store_write_changes.specs.Private.FormsAdded.{choice_at, with_choice, field_at, with_field}
+use Rattle.lab_store_write_changes.specs.FormsAdded.{with_form}
 
 pub choice_added : (field : ℤ) (name : List ℕ) (place : ℕ) (a b c : State) → Steps (Finds (λ t. place ≡ length (filter (is_choice_of field) t.choices) + 1)) a b
     → Steps (λ before after. after ≡ with_choice field place name before) b c → Steps (AddsChoice field name) a c

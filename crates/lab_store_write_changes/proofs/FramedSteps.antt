@@ -22,7 +22,8 @@ use Rattle.lab_store_write.specs.TrailAdded.{with_last, AddsLastTold}
 use Rattle.lab_store_write.proofs.Inside.{steps_weaker, found_then}
 use Rattle.lab_store_tables.proofs.Tables.{rising_with}
 use Rattle.lab_store_write.proofs.TrailAddedLemmas.{named_still}
-use Rattle.lab_store_write_changes.specs.Framed.{spares_last, keeps_giver, StepsKnowing, framed}
+use Rattle.lab_store_write_changes.specs.Framed.{spares_last, framed}
+use Rattle.lab_store_write_changes.specs.Private.Framed.{keeps_giver, StepsKnowing}
 use Rattle.lab_store_write.proofs.Later.{counted_later}
 use Rattle.lab_store_write_changes.proofs.Beside.{form_beside, entry_beside, signature_beside, version_beside, record_beside}
 use Rattle.lab_store_write_changes.proofs.Steps.{rules_of}

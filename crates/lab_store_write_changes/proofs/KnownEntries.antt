@@ -9,8 +9,9 @@ use Rattle.lab_seal_versions.specs.declared.rows.EntryRow.{EntryRow as Entry}
 use Rattle.lab_records_kept.specs.declared.records.Signature.{Signature}
 use Rattle.lab_records_kept.proofs.KnownDefaults.{bare_entry, bare_signature}
 use Rattle.lab_store_tables.proofs.KnownFile.{filled, file, entry, signature}
-use Rattle.lab_store_write_changes.specs.EntriesAdded.{with_entry, with_signature}
-use Rattle.lab_store_write_changes.specs.VersionsShown.{records_shown, current_of, version_in_record, versions_shown}
+use Rattle.lab_store_write_changes.specs.Private.EntriesAdded.{with_entry, with_signature}
+use Rattle.lab_store_write_changes.specs.Private.VersionsShown.{records_shown, versions_shown}
+use Rattle.lab_store_write_changes.specs.VersionsShown.{current_of, version_in_record}
 use Rattle.lab_store_write_changes.proofs.VersionsShownWords.{entries_shown, signatures_shown}
 
 -- a row that shows an id

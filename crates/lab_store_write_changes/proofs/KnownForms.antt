@@ -9,7 +9,8 @@ use Rattle.lab_forms.specs.declared.kinds.Kind.TheVariants.{YesNo}
 use Rattle.lab_records_kept.specs.declared.records.FormVersion.{FormVersion}
 use Rattle.lab_records_kept.proofs.KnownDefaults.{bare_field, bare_form}
 use Rattle.lab_store_tables.proofs.KnownFile.{file, plainly, form, field, choice}
-use Rattle.lab_store_write_changes.specs.FormsAdded.{with_choice, with_field, with_form}
+use Rattle.lab_store_write_changes.specs.Private.FormsAdded.{with_choice, with_field}
+use Rattle.lab_store_write_changes.specs.FormsAdded.{with_form}
 use Rattle.lab_store_write_changes.proofs.FieldsShownWords.{fields_shown, choices_shown}
 
 -- a row that shows an id

@@ -7,8 +7,8 @@ use Rattle.sqlite_value.specs.Order.{Row}
 use Rattle.lab_store_tables.proofs.KnownFile.{filled, file, filed, version}
 use Rattle.lab_store_tables.proofs.KnownValues.{aqua_record, older_version}
 use Rattle.lab_store_write_changes.specs.RecordsAdded.{with_record, with_version}
-use Rattle.lab_store_write_changes.specs.FormsShown.{forms_shown}
-use Rattle.lab_store_write_changes.specs.Texts.{amendment_reason}
+use Rattle.lab_store_write_changes.specs.Private.FormsShown.{forms_shown}
+use Rattle.lab_store_write_changes.specs.Private.Texts.{amendment_reason}
 
 -- a row that shows an id
 abbrev shown : ℤ → Row

@@ -28,7 +28,8 @@ use Rattle.lab_store_write.specs.Givers.{Knows}
 use Rattle.lab_store_write.proofs.Givers.{known_still}
 use Rattle.lab_store_write_changes.proofs.Leaving.{form_leaves, record_leaves, version_leaves}
 use Rattle.lab_store_write.proofs.Inside.{turn_more}
-use Rattle.lab_store_write_changes.specs.Framed.{spares_last, keeps_giver, StepsKnowing}
+use Rattle.lab_store_write_changes.specs.Framed.{spares_last}
+use Rattle.lab_store_write_changes.specs.Private.Framed.{keeps_giver, StepsKnowing}
 use Rattle.lab_store_write_changes.proofs.Steps.{rules_of}
 use Rattle.lab_store_tables.proofs.Comparing.{text_is}
 

@@ -6,9 +6,11 @@ use Rattle.lab_store_tables.proofs.KnownFile.{file, form}
 use Rattle.lab_store_tables.proofs.KnownValues.{aqua_record, older_version}
 use Rattle.lab_store_write.specs.Causes.{Statement}
 use Rattle.lab_store_write.specs.Statements.{setting_strays}
-use Rattle.lab_store_write_changes.specs.FormsAdded.{field_at, with_form}
+use Rattle.lab_store_write_changes.specs.Private.FormsAdded.{field_at}
+use Rattle.lab_store_write_changes.specs.FormsAdded.{with_form}
 use Rattle.lab_store_write_changes.specs.RecordsAdded.{with_record}
-use Rattle.lab_store_write_changes.specs.Statements.{asking_current, adding_entry_at, adding_signature_at, adding_form, adding_field, counting_records}
+use Rattle.lab_store_write_changes.specs.Statements.{asking_current, adding_form, adding_field, counting_records}
+use Rattle.lab_store_write_changes.specs.Private.Statements.{adding_entry_at, adding_signature_at}
 use Rattle.lab_store_write_changes.specs.Tried.{TriesIn}
 use Rattle.lab_store_write_changes.proofs.KnownEntries.{noted, rejected}
 use Rattle.lab_store_write_changes.proofs.KnownForms.{wanted, approved}

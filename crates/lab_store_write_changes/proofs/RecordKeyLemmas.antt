@@ -20,7 +20,7 @@ use Rattle.lab_store_write.specs.Causes.{is_reading, IsOurs}
 use Rattle.lab_store_write.proofs.Inside.{steps_weaker}
 use Rattle.lab_store_write.proofs.Lookups.{by_key_query, rows_by_key, first_key}
 use Rattle.lab_store_write.proofs.Ours.{ours}
-use Rattle.lab_store_write_changes.specs.FormsShown.{forms_shown}
+use Rattle.lab_store_write_changes.specs.Private.FormsShown.{forms_shown}
 use Rattle.lab_store_tables.proofs.Comparing.{equal_ints, equal_texts}
 pub use Rattle.lab_store_write_changes.specs.Statements.{form_text}
 

@@ -11,7 +11,8 @@ use Rattle.lab_store_tables.specs.Ready.{tables_of}
 use Rattle.lab_store_tables.specs.Family.{Records, Versions}
 use Rattle.lab_store_write.specs.declared.named.Giver.{Giver}
 use Rattle.lab_store_write.specs.Calls.{Steps, Finds, MadeFrom}
-use Rattle.lab_store_write.specs.Givers.{Knows, EachKnowing}
+use Rattle.lab_store_write.specs.Givers.{Knows}
+use Rattle.lab_store_write.specs.Private.Givers.{EachKnowing}
 use Rattle.lab_store_write.proofs.Givers.{known_still, known_turns}
 use Rattle.lab_store_write_changes.proofs.Leaving.{persons_of, entry_leaves, signature_leaves, version_leaves}
 use Rattle.lab_store_write_changes.specs.RecordsAdded.{with_record, with_version}

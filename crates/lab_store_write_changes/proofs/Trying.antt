@@ -4,7 +4,8 @@ use Rattle.lab_store_tables.specs.Rows.{Tables}
 use Rattle.lab_store_tables.specs.Changes.{InTurn}
 use Rattle.lab_store_write.specs.declared.named.Giver.{Giver}
 use Rattle.lab_store_write.specs.Causes.{Statement, Tries}
-use Rattle.lab_store_write.specs.Givers.{Knows, EachKnowing}
+use Rattle.lab_store_write.specs.Givers.{Knows}
+use Rattle.lab_store_write.specs.Private.Givers.{EachKnowing}
 use Rattle.lab_store_write.specs.Tried.{TriedFrom, TriesInTurn}
 use Rattle.lab_store_write.proofs.Givers.{known_turns}
 use Rattle.lab_store_write.proofs.Trying.{in_turn}

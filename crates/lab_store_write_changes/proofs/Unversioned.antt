@@ -11,8 +11,8 @@ use Rattle.lab_store_tables.specs.Rows.{RecordRow, VersionRow, Tables}
 use Rattle.lab_store_tables.specs.Changes.{is_record_row, is_version_row}
 use Rattle.lab_store_read.specs.Cells.{is_id, is_optional, stands}
 use Rattle.lab_store_read.specs.Faults.{is_out_of_memory}
-use Rattle.lab_store_write.specs.Causes.{IsVain}
-use Rattle.lab_store_write_changes.specs.VersionsShown.{ids_or_null, versions_shown, IsUnversioned}
+use Rattle.lab_store_write.specs.Private.Causes.{IsVain}
+use Rattle.lab_store_write_changes.specs.Private.VersionsShown.{ids_or_null, versions_shown, IsUnversioned}
 
 -- ---- of one row
 

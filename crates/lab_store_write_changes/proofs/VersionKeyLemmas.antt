@@ -37,7 +37,8 @@ use Rattle.lab_store_write.specs.Calls.{Steps, Finds}
 use Rattle.lab_store_write.specs.Causes.{is_reading, IsOurs}
 use Rattle.lab_store_write.proofs.Inside.{steps_weaker}
 use Rattle.lab_store_write.proofs.Ours.{ours}
-use Rattle.lab_store_write_changes.specs.VersionsShown.{current_of, version_in_record, ids_or_null, versions_shown, first_value}
+use Rattle.lab_store_write_changes.specs.VersionsShown.{current_of, version_in_record}
+use Rattle.lab_store_write_changes.specs.Private.VersionsShown.{ids_or_null, versions_shown, first_value}
 use Rattle.lab_store_tables.proofs.Comparing.{equal_ints}
 pub use Rattle.lab_store_write_changes.specs.Statements.{current_text, version_text}
 

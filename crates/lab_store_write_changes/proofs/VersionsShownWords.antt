@@ -3,7 +3,7 @@ use Rattle.std.specs.Prelude.{ℤ, List, [], ◌∷◌, map, filter}
 use Rattle.sqlite_value.specs.declared.value.Value.TheVariants.{Int}
 use Rattle.sqlite_value.specs.Order.{Row}
 use Rattle.lab_store_tables.specs.Rows.{EntryRow, SignatureRow, Tables}
-use Rattle.lab_store_write_changes.specs.VersionsShown.{is_entry_of, is_signature_of}
+use Rattle.lab_store_write_changes.specs.Private.VersionsShown.{is_entry_of, is_signature_of}
 
 abbrev pub entries_shown : ℤ → Tables → List Row
 entries_shown version t =

@@ -1,16 +1,10 @@
 -- Changes that most requests make: the last moment of the laboratory, some that say nothing of it
 -- and add no person, and a row of its trail.
-use Rattle.std.specs.Prelude.{◌≡◌, ℕ, ℤ, Bool, true, false, List, [], ◌∷◌, ◌++◌, Option, Some, None, IsTrue}
+use Rattle.std.specs.Prelude.{◌≡◌, ℕ, Bool, true, false, List, [], ◌∷◌, ◌++◌, IsTrue}
 use Rattle.std.specs.List.{list_all}
 use Rattle.lab_records_kept.specs.declared.changes.Change.{Change}
 use Rattle.lab_records_kept.specs.declared.changes.Change.TheVariants.{Last, Strays, PersonAdded, PersonSet, SessionAdded, SessionSet, SessionsClosed, FormAdded, RecordAdded, RowAdded, VersionOpened, SignatureAdded, TrailAdded}
 use Rattle.lab_records_kept.specs.declared.trails.TrailRow.{TrailRow as Told}
-use Rattle.lab_store_tables.specs.Rows.{Tables}
-use Rattle.lab_store_tables.specs.Changes.{InTurn}
-use Rattle.lab_store_tables.specs.Steps.{StepsBy}
-use Rattle.lab_store_write.specs.declared.named.Giver.{Giver}
-use Rattle.lab_store_write.specs.Calls.{MadeFrom}
-use Rattle.lab_store_write.specs.Givers.{Knows}
 
 -- whether a change is one that says nothing of the last moment, and after which who gives the
 -- command is known as before
@@ -28,17 +22,6 @@ spares_last (RowAdded number row) = true
 spares_last (VersionOpened number version) = true
 spares_last (SignatureAdded number version signature) = true
 spares_last (TrailAdded told) = false
-
--- whether who gives the command stays known over the changes, where somebody is
-abbrev pub keeps_giver : Option Giver → List Change → Bool
-keeps_giver None changes = true
-keeps_giver (Some giver) changes = list_all spares_last changes
-
--- the changes are made, and who is known is so after them
-abbrev pub StepsKnowing : ℤ → Option Giver → List Change → Tables → Tables → Type 0
-StepsKnowing lab giver changes =
-    MadeFrom (Knows lab giver)
-    (λ old new. InTurn (StepsBy lab) changes old new × Knows lab giver new)
 
 abbrev pub framed : ℕ → List Change → Told → List Change
 framed moment between told = Last moment ∷ (between ++ TrailAdded told ∷ [])

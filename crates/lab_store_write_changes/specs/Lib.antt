@@ -1,13 +1,10 @@
 pub mod Causes
-pub mod EntriesAdded
-pub mod FieldsShown
 pub mod FormsAdded
-pub mod FormsShown
 pub mod Framed
 pub mod NewbornRows
 pub mod Newborns
 pub mod RecordsAdded
 pub mod Statements
-pub mod Texts
 pub mod Tried
 pub mod VersionsShown
+pub mod Private

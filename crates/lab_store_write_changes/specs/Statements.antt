@@ -1,13 +1,10 @@
 -- The statements that the writers try: their texts, and the values of their parameters.
-use Rattle.std.specs.Prelude.{ℕ, ℤ, pos, List, [], ◌∷◌, ◌++◌, codes}
+use Rattle.std.specs.Prelude.{ℕ, ℤ, List, [], ◌∷◌, ◌++◌, codes}
 use Rattle.sqlite_value.specs.declared.value.Value.TheVariants.{Int, Text}
-use Rattle.lab_seal_versions.specs.declared.rows.EntryRow.{EntryRow as Entry}
-use Rattle.lab_records_kept.specs.declared.records.Signature.{Signature}
 use Rattle.lab_store_tables.specs.Rows.{FormRow, FieldRow, ChoiceRow, RecordRow, VersionRow, EntryRow, SignatureRow, number}
 use Rattle.lab_store_tables.specs.Family.{Forms, Fields, Choices, Records, Versions, Entries, Signatures}
 use Rattle.lab_store_write.specs.Causes.{Statement, statement}
 use Rattle.lab_store_write.specs.Statements.{columns_of}
-use Rattle.lab_store_write_changes.specs.EntriesAdded.{entry_at, signature_at}
 
 -- ---- what is named by a key
 
@@ -61,10 +58,6 @@ add_entry_text =
 abbrev pub adding_entry : EntryRow → Statement
 adding_entry row = statement add_entry_text (columns_of Entries row)
 
-abbrev pub adding_entry_at : ℤ → ℕ → ℤ → Entry → Statement
-adding_entry_at version place person entry =
-    adding_entry (entry_at version (pos 0) place person entry)
-
 abbrev pub signatures_text : List ℕ
 signatures_text = codes "SELECT id FROM signatures WHERE version = ?1 ORDER BY id"
 
@@ -78,10 +71,6 @@ add_signature_text =
 
 abbrev pub adding_signature : SignatureRow → Statement
 adding_signature row = statement add_signature_text (columns_of Signatures row)
-
-abbrev pub adding_signature_at : ℤ → ℕ → ℤ → Signature → Statement
-adding_signature_at version place person signature =
-    adding_signature (signature_at version (pos 0) place person signature)
 
 -- ---- forms
 

@@ -27,7 +27,8 @@ pub use Rattle.lab_store_write.specs.Tried.{Only, TriedFrom}
 use Rattle.lab_store_write_changes.specs.FormsAdded.{with_form}
 use Rattle.lab_store_write_changes.specs.Framed.{IsFramed}
 use Rattle.lab_store_write_changes.specs.RecordsAdded.{with_record, with_version}
-pub use Rattle.lab_store_write_changes.specs.Statements.{adding_entry_at, adding_signature_at, asking_record, asking_form, adding_record, counting_records, adding_version, setting_current, adding_form, asking_fields, adding_field, asking_choices, adding_choice, asking_current, asking_version, asking_entries, adding_entry, asking_signatures, adding_signature}
+pub use Rattle.lab_store_write_changes.specs.Private.Statements.{adding_entry_at, adding_signature_at}
+pub use Rattle.lab_store_write_changes.specs.Statements.{asking_record, asking_form, adding_record, counting_records, adding_version, setting_current, adding_form, asking_fields, adding_field, asking_choices, adding_choice, asking_current, asking_version, asking_entries, adding_entry, asking_signatures, adding_signature}
 use Rattle.lab_store_write_changes.specs.VersionsShown.{current_of, version_in_record}
 
 -- a writer that is given who gives the command, where that person is known

@@ -10,7 +10,8 @@ ghost use Rattle.lab_store_tables.specs.Steps.{AppliesWhereKept, StepsBy};
 ghost use Rattle.lab_store_write.specs.Calls.{Stays, Steps, WritesTrying, WritesUnlessTrying, FailsForTrying, MadeFrom};
 ghost use Rattle.lab_store_write.specs.Givers.{Knows};
 ghost use Rattle.lab_store_write_changes.specs.Causes.{IsTooMuch, OneIsTooMuch};
-ghost use Rattle.lab_store_write_changes.specs.Framed.{spares_last, keeps_giver, StepsKnowing, framed};
+ghost use Rattle.lab_store_write_changes.specs.Framed.{spares_last, framed};
+ghost use Rattle.lab_store_write_changes.specs.Private.Framed.{keeps_giver, StepsKnowing};
 ghost use Rattle.lab_store_write_changes.specs.Tried.{TriedFrom, TriesIn, TriesEach, TriesFramed, TriesAll, WritesKnowing};
 
 use crate::framed::frame_of;

@@ -2,9 +2,10 @@
 
 ghost use Rattle.lab_records_kept.specs.declared.changes.Change.TheVariants.{RowAdded};
 ghost use Rattle.lab_store_tables.specs.Changes.{AppliesIn, AddsEntry};
-ghost use Rattle.lab_store_write.specs.Calls.{WritesTrying, Becomes};
+ghost use Rattle.lab_store_write.specs.Calls.{WritesTrying};
+ghost use Rattle.lab_store_write.specs.Private.Calls.{Becomes};
 ghost use Rattle.lab_store_write.specs.Causes.{IsTooGreat};
-ghost use Rattle.lab_store_write_changes.specs.EntriesAdded.{with_entry};
+ghost use Rattle.lab_store_write_changes.specs.Private.EntriesAdded.{with_entry};
 ghost use Rattle.lab_store_write_changes.specs.Tried.{Only, TriesToAddEntry, TriesIn, WritesKnowing, adding_entry_at};
 
 use crate::named::current_version_at;

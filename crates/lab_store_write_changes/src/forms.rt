@@ -6,9 +6,11 @@ ghost use Rattle.lab_records_kept.specs.declared.changes.Change.TheVariants.{For
 ghost use Rattle.lab_store_tables.specs.Rows.{form_id, field_id};
 ghost use Rattle.lab_store_tables.specs.Columns.{kind_names};
 ghost use Rattle.lab_store_tables.specs.Changes.{AppliesIn, InTurn, AddsChoice, AddsField, form_row_of};
-ghost use Rattle.lab_store_write.specs.Calls.{AnswersTrying, WritesTrying, Becomes};
+ghost use Rattle.lab_store_write.specs.Calls.{AnswersTrying, WritesTrying};
+ghost use Rattle.lab_store_write.specs.Private.Calls.{Becomes};
 ghost use Rattle.lab_store_write.specs.Causes.{IsTooGreat};
-ghost use Rattle.lab_store_write_changes.specs.FormsAdded.{choice_at, with_choice, field_at, with_field, with_form};
+ghost use Rattle.lab_store_write_changes.specs.Private.FormsAdded.{choice_at, with_choice, field_at, with_field};
+ghost use Rattle.lab_store_write_changes.specs.FormsAdded.{with_form};
 ghost use Rattle.lab_store_write_changes.specs.Tried.{Only, TriesToAddChoice, TriesToAddChoices, TriesToAddField, TriesToAddFields, TriesIn, adding_choice, adding_field, adding_form};
 
 use crate::kinds::{

@@ -1,7 +1,6 @@
-//! What is written inside one transaction: forms, records, versions, entries and signatures; the
-//! changes of a request, one after the other; and the rows of a laboratory that is founded (21 CFR
-//! 11.10(e) and 11.70; ISO/IEC 17025:2017, 7.5.2 and 7.11.3). This crate names no connection and no
-//! transaction: a crate above begins and commits the transaction.
+//! What is written inside one transaction, which a crate above begins and commits: forms, records,
+//! versions, entries and signatures; the changes of a request, one after the other; and the rows of a
+//! laboratory that is founded (21 CFR 11.10(e) and 11.70; ISO/IEC 17025:2017, 7.5.2 and 7.11.3).
 #![tactic(auto)]
 
 mod changes;
@@ -13,7 +12,6 @@ mod named;
 mod named_forms;
 mod newborns;
 mod places;
-mod reason_texts;
 mod records;
 mod rows;
 mod signatures;

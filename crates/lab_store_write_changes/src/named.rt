@@ -7,7 +7,8 @@ ghost use Rattle.lab_store_tables.specs.Rows.{record_id};
 ghost use Rattle.lab_store_tables.specs.Changes.{record_named};
 ghost use Rattle.lab_store_write.specs.Calls.{AnswersTrying, Finds};
 ghost use Rattle.lab_store_write.specs.Causes.{IsShown};
-ghost use Rattle.lab_store_write_changes.specs.VersionsShown.{records_shown, current_of, version_in_record, versions_shown, first_value, IsUnversioned};
+ghost use Rattle.lab_store_write_changes.specs.Private.VersionsShown.{records_shown, versions_shown, first_value, IsUnversioned};
+ghost use Rattle.lab_store_write_changes.specs.VersionsShown.{current_of, version_in_record};
 ghost use Rattle.lab_store_write_changes.specs.Tried.{Only, asking_record, asking_current, asking_version};
 
 use lab_forms_texts::Ordinal;

@@ -5,7 +5,7 @@ ghost use Rattle.sqlite.specs.State.{HasCleanDisk};
 ghost use Rattle.lab_store_tables.specs.Changes.{form_named};
 ghost use Rattle.lab_store_write.specs.Calls.{AnswersTrying, Finds};
 ghost use Rattle.lab_store_write.specs.Causes.{IsShown};
-ghost use Rattle.lab_store_write_changes.specs.FormsShown.{forms_shown};
+ghost use Rattle.lab_store_write_changes.specs.Private.FormsShown.{forms_shown};
 ghost use Rattle.lab_store_write_changes.specs.Tried.{Only, asking_form};
 
 use lab_forms_texts::{Key, Ordinal};

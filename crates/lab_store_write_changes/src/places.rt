@@ -3,8 +3,8 @@
 ghost use Rattle.std.specs.Prelude.{◌≡◌, ◌+◌, filter, length, IfOk};
 ghost use Rattle.lab_store_write.specs.Calls.{AnswersTrying, Finds};
 ghost use Rattle.lab_store_write.specs.Causes.{IsTooGreat};
-ghost use Rattle.lab_store_write_changes.specs.FieldsShown.{is_field_of, is_choice_of};
-ghost use Rattle.lab_store_write_changes.specs.VersionsShown.{is_entry_of, is_signature_of};
+ghost use Rattle.lab_store_write_changes.specs.Private.FieldsShown.{is_field_of, is_choice_of};
+ghost use Rattle.lab_store_write_changes.specs.Private.VersionsShown.{is_entry_of, is_signature_of};
 ghost use Rattle.lab_store_write_changes.specs.Tried.{Only, asking_fields, asking_choices, asking_entries, asking_signatures};
 
 use lab_store_write::{RowId, Writable, place_below};

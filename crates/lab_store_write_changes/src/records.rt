@@ -5,8 +5,10 @@ ghost use Rattle.sqlite_keyed.specs.Keyed.{next_key};
 ghost use Rattle.lab_records_kept.specs.declared.changes.Change.TheVariants.{RecordAdded};
 ghost use Rattle.lab_store_tables.specs.Rows.{LabRow, record_id};
 ghost use Rattle.lab_store_tables.specs.Changes.{AppliesIn, in_lab, InTurn, AddsVersion, record_row_of};
-ghost use Rattle.lab_store_write.specs.Calls.{AnswersTrying, WritesTrying, Becomes};
-ghost use Rattle.lab_store_write.specs.Givers.{Knows, EachKnowing};
+ghost use Rattle.lab_store_write.specs.Calls.{AnswersTrying, WritesTrying};
+ghost use Rattle.lab_store_write.specs.Private.Calls.{Becomes};
+ghost use Rattle.lab_store_write.specs.Givers.{Knows};
+ghost use Rattle.lab_store_write.specs.Private.Givers.{EachKnowing};
 ghost use Rattle.lab_store_write_changes.specs.RecordsAdded.{with_record};
 ghost use Rattle.lab_store_write_changes.specs.Tried.{Only, TriedFrom, TriesToAddVersions, TriesIn, WritesKnowing, adding_record, counting_records};
 

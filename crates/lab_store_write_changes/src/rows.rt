@@ -5,7 +5,8 @@ ghost use Rattle.sqlite.specs.Effect.{IsDatabase};
 ghost use Rattle.sqlite.specs.State.{HasCleanDisk};
 ghost use Rattle.lab_store_tables.specs.Changes.{InTurn, AddsPerson, AddsTold};
 ghost use Rattle.lab_store_tables.specs.Held.{IsTyped};
-ghost use Rattle.lab_store_write.specs.Calls.{AnswersUnless, Writes, WritesUnless};
+ghost use Rattle.lab_store_write.specs.Calls.{AnswersUnless, WritesUnless};
+ghost use Rattle.lab_store_write.specs.Private.Calls.{Writes};
 ghost use Rattle.lab_store_write.specs.Causes.{IsTooGreat};
 ghost use Rattle.lab_store_write_changes.specs.NewbornRows.{AddsLab, AddsRows};
 

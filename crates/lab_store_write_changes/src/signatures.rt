@@ -2,9 +2,10 @@
 
 ghost use Rattle.lab_records_kept.specs.declared.changes.Change.TheVariants.{SignatureAdded};
 ghost use Rattle.lab_store_tables.specs.Changes.{AppliesIn, AddsSignature};
-ghost use Rattle.lab_store_write.specs.Calls.{WritesTrying, Becomes};
+ghost use Rattle.lab_store_write.specs.Calls.{WritesTrying};
+ghost use Rattle.lab_store_write.specs.Private.Calls.{Becomes};
 ghost use Rattle.lab_store_write.specs.Causes.{IsTooGreat};
-ghost use Rattle.lab_store_write_changes.specs.EntriesAdded.{with_signature};
+ghost use Rattle.lab_store_write_changes.specs.Private.EntriesAdded.{with_signature};
 ghost use Rattle.lab_store_write_changes.specs.Tried.{Only, TriesToAddSignature, TriesIn, WritesKnowing, adding_signature_at};
 
 use crate::named::version_at;

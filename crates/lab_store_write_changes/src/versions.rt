@@ -6,15 +6,17 @@ ghost use Rattle.lab_records_kept.specs.declared.changes.Change.TheVariants.{Ver
 ghost use Rattle.lab_store_tables.specs.Rows.{version_id};
 ghost use Rattle.lab_store_tables.specs.Columns.{format_number};
 ghost use Rattle.lab_store_tables.specs.Changes.{AppliesIn, InTurn, AddsEntry, AddsSignature, AddsVersion, version_row_of, set_current as with_current};
-ghost use Rattle.lab_store_write.specs.Calls.{AnswersTrying, WritesTrying, Becomes};
-ghost use Rattle.lab_store_write.specs.Givers.{Knows, EachKnowing};
+ghost use Rattle.lab_store_write.specs.Calls.{AnswersTrying, WritesTrying};
+ghost use Rattle.lab_store_write.specs.Private.Calls.{Becomes};
+ghost use Rattle.lab_store_write.specs.Givers.{Knows};
+ghost use Rattle.lab_store_write.specs.Private.Givers.{EachKnowing};
 ghost use Rattle.lab_store_write_changes.specs.RecordsAdded.{with_version};
 ghost use Rattle.lab_store_write_changes.specs.Tried.{Only, TriedFrom, TriesToAddEntries, TriesToAddSignatures, TriesToAddVersion, TriesIn, WritesKnowing, adding_version, setting_current};
 
 use crate::entries::add_entry;
 use crate::named::record_at;
-use crate::reason_texts::cause_or_null;
 use crate::signatures::add_signature;
+use crate::texts::cause_or_null;
 use lab_forms_texts::Ordinal;
 use lab_records_kept::{Signature, Version};
 use lab_seal_versions::{EntryRow, Format};

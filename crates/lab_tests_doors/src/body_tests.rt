@@ -1,7 +1,7 @@
-//! What the body of a founding says, and the rows of the records of a desk without any.
-use crate::made::{code, empty_desk, tick};
+//! What the body of a founding says, and the rows of the records of no laboratory.
+use crate::made::code;
 use crate::texts::{BODY, SHORT, TWICE};
-use lab_desk::{Desk, FoundFault, Founding, Lists, founding_of};
+use lab_desk::{FoundFault, Founding, Lists, founding_of};
 use lab_store::{CopyRow, Ordinal, StoreFault, copy_rows};
 use std::process::Abort;
 
@@ -26,7 +26,7 @@ fn a_body_is_refused_by_its_founders(rt: HostRuntime) {
     drop(founding);
 }
 
-// The rows of all records, without clauses, so that the proof of the test doesn't carry them.
+// The rows of the first record, without clauses, so that the proof of the test doesn't carry them.
 fn rows<R: Abort + AllocGlobal>(
     rt: &R,
     lists: &mut Lists,
@@ -36,21 +36,11 @@ fn rows<R: Abort + AllocGlobal>(
     copy_rows(rt.alloc(), lists, &code, Ordinal::FIRST, Ordinal::FIRST)
 }
 
-fn desk_with_aqua<R: Abort + AllocGlobal>(rt: &R) -> Desk<Lists> {
-    let mut desk = empty_desk(rt);
-    let code = code(rt, "aqua");
-    let found = desk.found(&code, &tick(rt, 50, 1), BODY);
-    drop(code);
-    assert_eq!(rt; found, Ok(()));
-    desk
-}
-
 #[test]
-fn a_laboratory_without_records_has_no_rows(rt: HostRuntime) {
-    let mut lists = desk_with_aqua(&rt).into_keeper();
+fn no_laboratory_has_no_rows(rt: HostRuntime) {
+    let mut lists = Lists::new(rt.alloc());
     let found = rows(&rt, &mut lists, "aqua").expect(&rt, "an answer");
-    assert!(rt; found.is_some_and(|rows| rows.is_empty()));
-    let none = rows(&rt, &mut lists, "brick").expect(&rt, "an answer");
-    assert!(rt; none.is_none());
+    assert!(rt; found.is_none());
+    drop(found);
     drop(lists);
 }

@@ -16,7 +16,8 @@ mod founding_tests;
 mod made;
 #[cfg(test)]
 mod moody;
-mod names;
+mod names_inside;
+mod names_outside;
 #[cfg(test)]
 mod refused_request_tests;
 #[cfg(test)]

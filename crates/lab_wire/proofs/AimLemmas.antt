@@ -18,7 +18,7 @@ use Rattle.lab_wire.specs.Numbers.{ordinal_in}
 use Rattle.lab_wire.specs.Paths.{segments}
 use Rattle.lab_wire.specs.Routes.{is_key_mark, is_number_mark, admits, all_admitted, aim_at, aim_by, route_of, get_method, post_method}
 use Rattle.lab_wire.specs.Aims.{part_of, with_part, no_parts, parts_from, aim_of}
-use Rattle.lab_wire.specs.Places.{Place, places, is_to, place_to, asked_by, allowed_at, route_or_methods}
+use Rattle.lab_wire.specs.Private.Places.{Place, places, is_to, place_to, asked_by, allowed_at, route_or_methods}
 use Rattle.lab_wire.proofs.NumberLemmas.{ordinal_is}
 use Rattle.lab_wire.proofs.PlaceWords.{route_in}
 use Rattle.lab_wire.proofs.PlaceLemmas.{Begins}

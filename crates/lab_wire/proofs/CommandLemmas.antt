@@ -11,7 +11,8 @@ use Rattle.lab_wire.specs.declared.route_refusals.RouteRefusal.{RouteRefusal}
 use Rattle.lab_wire.specs.declared.route_refusals.RouteRefusal.TheVariants.{Body}
 use Rattle.lab_forms_texts.specs.declared.refusals.Fault.{Fault}
 use Rattle.lab_forms_texts.specs.declared.refusals.Fault.TheVariants.{Refused, Memory}
-use Rattle.lab_wire.specs.Commands.{reads_in, ranged, FaultFits, PostsBytes, asked_of, asked_at, destination_in, command_asked, RouteFaultFits}
+use Rattle.lab_wire.specs.Commands.{reads_in, ranged, PostsBytes, asked_of, asked_at, destination_in, command_asked, RouteFaultFits}
+use Rattle.lab_wire.specs.Private.Commands.{FaultFits}
 use Rattle.lab_wire.specs.Routes.{Destination}
 use Rattle.lab_wire.specs.declared.commands.Asked.{Asked}
 

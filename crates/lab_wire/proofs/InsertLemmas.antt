@@ -9,8 +9,10 @@ use Rattle.matchit.specs.declared.error.InsertError.{InsertError}
 use Rattle.matchit.specs.declared.error.InsertError.TheVariants.{Conflict, InvalidParam, InvalidParamSegment, InvalidCatchAll, OutOfMemory}
 use Rattle.matchit.proofs.OnLiterals.{matchit_on_literals}
 use Rattle.lab_wire.specs.declared.routes.Place.{Place as PlaceOfCode}
-use Rattle.lab_wire.specs.Places.{Place, place_shown, place_at, texts, places}
-use Rattle.lab_wire.specs.Router.{Rows, text_at, among, router_with, router_of_table}
+use Rattle.lab_wire.specs.Private.Places.{Place, place_shown, place_at, places}
+use Rattle.lab_wire.specs.Places.{texts}
+use Rattle.lab_wire.specs.Router.{Rows, among, router_with, router_of_table}
+use Rattle.lab_wire.specs.Private.Router.{text_at}
 use Rattle.lab_wire.proofs.TableLemmas.{true_first, true_last}
 
 abbrev pub goes_in : Result Scan InsertError → Rows → Bool

@@ -6,7 +6,7 @@ use Rattle.std.proofs.lemmas.Slice.Eq.{bytes_eq-Decides}
 use Rattle.http_header.specs.Token.{IsToken, is_token_byte}
 use Rattle.http_header.proofs.TokenLemmas.{AllPass-from_test}
 use Rattle.lab_wire.specs.Routes.{get_method, post_method}
-use Rattle.lab_wire.specs.Places.{Place, asked_by}
+use Rattle.lab_wire.specs.Private.Places.{Place, asked_by}
 
 get_token : IsToken get_method
 unfolding is_token_byte

@@ -13,9 +13,11 @@ use Rattle.lab_wire.specs.declared.route_refusals.RouteRefusal.TheVariants.{NoRo
 use Rattle.lab_wire.specs.declared.routes.Route.{Route}
 use Rattle.lab_wire.specs.Paths.{segments}
 use Rattle.lab_wire.specs.Routes.{Row, routes, get_method, post_method, all_admitted, is_row_to, is_place, is_row, route_row, allowed, route_or_allowed, route_of}
-use Rattle.lab_wire.specs.Places.{place_at, texts, is_at, is_to, place_to, allowed_by, route_or_methods}
+use Rattle.lab_wire.specs.Private.Places.{place_at, is_at, is_to, place_to, allowed_by, route_or_methods}
+use Rattle.lab_wire.specs.Places.{texts}
 use Rattle.lab_wire.proofs.PlaceWords.{route_in}
-use Rattle.lab_wire.specs.Router.{text_at, router_of_table}
+use Rattle.lab_wire.specs.Private.Router.{text_at}
+use Rattle.lab_wire.specs.Router.{router_of_table}
 use Rattle.lab_wire.proofs.TableLemmas.{true_first, true_last}
 use Rattle.lab_wire.proofs.WalkLemmas.{seek_of, OfFound, of_each}
 use Rattle.lab_wire.proofs.PlaceLemmas.{Begins}

@@ -3,7 +3,7 @@ use Rattle.std.specs.Prelude.{ℕ, List, Option, Some, None, Result, Err}
 use Rattle.lab_wire.specs.declared.route_refusals.RouteRefusal.{RouteRefusal}
 use Rattle.lab_wire.specs.declared.route_refusals.RouteRefusal.TheVariants.{NoRoute}
 use Rattle.lab_wire.specs.declared.routes.Route.{Route}
-use Rattle.lab_wire.specs.Places.{Place, asked_by, allowed_at, route_or_methods}
+use Rattle.lab_wire.specs.Private.Places.{Place, asked_by, allowed_at, route_or_methods}
 
 -- what the place has for a method
 abbrev pub route_in : List ℕ → Option Place → Result Route RouteRefusal

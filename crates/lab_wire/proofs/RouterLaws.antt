@@ -15,7 +15,8 @@ use Rattle.lab_wire.specs.Numbers.{ordinal_in}
 use Rattle.lab_wire.specs.Paths.{segments}
 use Rattle.lab_wire.specs.Routes.{admits, all_admitted}
 use Rattle.lab_wire.specs.Places.{texts}
-use Rattle.lab_wire.specs.Router.{text_at, router_of_table}
+use Rattle.lab_wire.specs.Private.Router.{text_at}
+use Rattle.lab_wire.specs.Router.{router_of_table}
 use Rattle.lab_wire.proofs.TableLemmas.{true_first, true_last}
 use Rattle.lab_wire.proofs.WalkLemmas.{by_word, goes_on, ends_first, ends_last, each_row}
 use Rattle.lab_wire.proofs.PlaceLemmas.{joined, AreClean, Begins, whole, is_literal, literal_segments, Low, key_low, ordinal_low}

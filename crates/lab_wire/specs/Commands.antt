@@ -58,12 +58,6 @@ abbrev pub PostsBytes : Aim → List ℕ → Type 0
 PostsBytes (Posted post) body = 0 < length body
 PostsBytes _ body = ⊥
 
--- the faults of finding something: the refusal that comes of it; out of memory only where something
--- is found, which is copied, or where bytes are read into memory
-abbrev pub FaultFits : {A : Type 0} → Type 0 → Result A RouteRefusal → Fault RouteRefusal → Type 0
-FaultFits reads found (Refused refusal) = found ≡ Err refusal
-FaultFits reads found Memory = IsOk found ⊎ reads
-
 -- ---- what is asked
 
 -- a command, in the session of the token

@@ -11,3 +11,4 @@ pub mod Router
 pub mod RouteRefusals
 pub mod Routes
 pub mod Statuses
+pub mod Private

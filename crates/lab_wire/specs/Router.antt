@@ -1,6 +1,6 @@
 -- The router of the table: its places, inserted one after another, each with its number (`matchit`,
 -- whose `first` says which of them a path finds).
-use Rattle.std.specs.Prelude.{ℕ, ◌+◌, List, [], ◌∷◌, get_or, Result, Ok, Err}
+use Rattle.std.specs.Prelude.{ℕ, ◌+◌, List, [], ◌∷◌, Result, Ok, Err}
 use Rattle.matchit.specs.Rows.{RowsOf}
 use Rattle.matchit.specs.Order.{placed}
 use Rattle.matchit.specs.Route.{Scan, parse_route}
@@ -10,10 +10,6 @@ use Rattle.lab_wire.specs.Places.{texts}
 
 abbrev pub Rows : Type 0
 Rows = RowsOf (RouteOf ℕ)
-
--- the text of the place with a number
-abbrev pub text_at : ℕ → List ℕ
-text_at number = get_or texts number []
 
 -- a number among those of a router, by what is read of its text
 abbrev pub among : Result Scan InsertError → ℕ → Rows → Rows

@@ -6,7 +6,8 @@ ghost use Rattle.lab_wire_bodies.specs.Bodies.{post_named, body_named};
 ghost use Rattle.lab_records_machine.specs.declared.commands.ReadingCommand.TheVariants.{ReadForm, ReadRecords, ReadTrail, TakeCopy};
 ghost use Rattle.lab_forms_texts.specs.declared.refusals.Fault.TheVariants.{Memory};
 ghost use Rattle.lab_wire.specs.Queries.{range_in};
-ghost use Rattle.lab_wire.specs.Commands.{by_body, reads_in, command_at, PostsBytes, FaultFits, asked_of, command_asked, RouteFaultFits};
+ghost use Rattle.lab_wire.specs.Commands.{by_body, reads_in, command_at, PostsBytes, asked_of, command_asked, RouteFaultFits};
+ghost use Rattle.lab_wire.specs.Private.Commands.{FaultFits};
 
 use crate::aims::{Admitted, Aim};
 use crate::queries::range_in;

@@ -6,8 +6,10 @@ ghost use Rattle.matchit.specs.declared.error.InsertError.TheVariants.{OutOfMemo
 ghost use Rattle.lab_wire.specs.Paths.{place_in, segments};
 ghost use Rattle.lab_wire.specs.Aims.{no_parts, parts_from};
 ghost use Rattle.lab_wire.specs.Routes.{route_of, aim_by, destination_shown, destination_of};
-ghost use Rattle.lab_wire.specs.Places.{place_shown, place_at, texts, places, asked_by, allowed_at, place_to, route_or_methods};
-ghost use Rattle.lab_wire.specs.Router.{text_at, router_of_table};
+ghost use Rattle.lab_wire.specs.Private.Places.{place_shown, place_at, places, asked_by, allowed_at, place_to, route_or_methods};
+ghost use Rattle.lab_wire.specs.Places.{texts};
+ghost use Rattle.lab_wire.specs.Private.Router.{text_at};
+ghost use Rattle.lab_wire.specs.Router.{router_of_table};
 
 use crate::aims::{Admitted, Aim, Parts, aim_of, parts_by};
 use crate::paths::{behind, lab_in, path_of, place_in, query_of};

@@ -7,7 +7,7 @@ use Rattle.std.proofs.lemmas.Slice.{take-put_mid}
 use Rattle.std.proofs.KnownBytes.{Consumes-nil, Consumes-trans}
 use lib.Seq.{take-take, take-add}
 use borrow.Rule.Slice.PartMut.{put_mid}
-use Rattle.lab_wire_heads.specs.Reading.{CameBehind, HasBody}
+use Rattle.lab_wire_heads.specs.Private.Reading.{CameBehind, HasBody}
 
 -- one byte more came, and was put behind the others
 pub one_more : (old mid new : Option (List ℕ)) (xs : List ℕ) (count byte : ℕ) → count < length xs

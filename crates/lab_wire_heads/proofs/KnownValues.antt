@@ -1,8 +1,8 @@
 -- Stages of real heads, and the interim lines, so that a wrong rule in the definitions does not check.
 use Rattle.std.proofs.Common.{◌≡◌, refl, [], ◌∷◌, ◌++◌, length, codes, true, false}
 use Rattle.lab_wire_heads.specs.declared.stages.HeadStage.TheVariants.{Front, Line}
-use Rattle.lab_wire_heads.specs.Receiving.{lines_if}
-use Rattle.lab_wire_heads.specs.Stages.{stage_after, has_ended}
+use Rattle.lab_wire_heads.specs.Private.Receiving.{lines_if}
+use Rattle.lab_wire_heads.specs.Private.Stages.{stage_after, has_ended}
 
 -- LF LF and LF CR LF end a head, in front of which CR and LF may stand; CR LF CR G doesn't
 pub known_ends : (has_ended (stage_after (stage_after Line 10) 10) ≡ true)

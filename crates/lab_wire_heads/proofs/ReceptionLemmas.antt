@@ -25,8 +25,10 @@ use Rattle.lab_wire_heads.specs.Receptions.{head_stop, request_length}
 use Rattle.lab_wire_heads.proofs.FrontLemmas.{good_parts}
 use Rattle.lab_wire_heads.proofs.RequestLemmas.{request_refused}
 use Rattle.lab_wire_heads.proofs.RequestLaws.{accepted_from, accepted_behind, request_whole, length_is, by_front_law, head_law}
-use Rattle.lab_wire_heads.specs.Reading.{HasBody, IsBodyFault, OnMemory}
-use Rattle.lab_wire_heads.specs.Receiving.{IsWholeRequest, IsReception, lines_if, IsInterimOf}
+use Rattle.lab_wire_heads.specs.Private.Reading.{HasBody, IsBodyFault}
+use Rattle.lab_wire_heads.specs.Reading.{OnMemory}
+use Rattle.lab_wire_heads.specs.Receiving.{IsWholeRequest, IsReception, IsInterimOf}
+use Rattle.lab_wire_heads.specs.Private.Receiving.{lines_if}
 use Rattle.lab_wire_heads.proofs.StopLemmas.{stop_if}
 
 -- ---- a head that is accepted, and nothing behind it

@@ -12,7 +12,7 @@ use Rattle.lab_wire_heads.specs.Heads.{head_limit, is_line_feed, but_last, is_em
 use Rattle.lab_wire_heads.proofs.LineLemmas.{ended_lines_at, full_line, empty_line}
 use Rattle.lab_wire_heads.specs.declared.stages.HeadStage.{HeadStage}
 use Rattle.lab_wire_heads.specs.declared.stages.HeadStage.TheVariants.{Front, Empty, Return, Line, Ended}
-use Rattle.lab_wire_heads.specs.Stages.{stage_after, has_ended}
+use Rattle.lab_wire_heads.specs.Private.Stages.{stage_after, has_ended}
 
 -- after more bytes
 pub after_all : HeadStage → List ℕ → HeadStage

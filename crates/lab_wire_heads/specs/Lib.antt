@@ -11,5 +11,5 @@ pub mod Receiving
 pub mod Receptions
 pub mod Refusals
 pub mod Requests
-pub mod Stages
 pub mod Tokens
+pub mod Private

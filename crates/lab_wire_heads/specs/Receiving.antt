@@ -1,13 +1,13 @@
 -- How one request is received from a reader whose bytes are known, and what is written in between
 -- (RFC 9112, sections 2.2 and 6.3; RFC 9110, sections 10.1.1 and 15.2.1). The request is the one
 -- that the bytes begin with, as lab_wire_heads has it.
-use Rattle.std.specs.Prelude.{◌≡◌, ℕ, ◌<◌, Bool, ◌⊎◌, List, [], length, take, if◌then◌else◌, IsOk, Option, Result, Ok, Err}
+use Rattle.std.specs.Prelude.{◌≡◌, ℕ, ◌<◌, ◌⊎◌, List, [], length, take, IsOk, Option, Result, Ok, Err}
 use Rattle.std.specs.Io.KnownBytes.{Appends}
 use Rattle.lab_wire_heads.specs.declared.asks.TheConstants.{MOST_ASKS}
 use Rattle.lab_wire_heads.specs.declared.refusals.HeadFault.{HeadFault}
 use Rattle.lab_wire_heads.specs.declared.refusals.HeadFault.TheVariants.{Refused, Read, Write, Memory}
 use Rattle.lab_wire_heads.specs.Requests.{accepted_head, request_in}
-use Rattle.lab_wire_heads.specs.Interims.{interim_lines, interim_text}
+use Rattle.lab_wire_heads.specs.Interims.{interim_text}
 use Rattle.lab_wire_heads.specs.Receptions.{request_length}
 
 -- how often a reader is asked for one request at most: a request has 73,728 bytes at most, so that
@@ -30,10 +30,6 @@ IsReception bytes (Err (Refused refusal)) = request_in bytes ≡ Err refusal
 IsReception bytes (Err Read) = Unit {0}
 IsReception bytes (Err (Write sent)) = sent < length (interim_text bytes)
 IsReception bytes (Err Memory) = IsOk (accepted_head bytes)
-
--- the interim lines where they are due, and else nothing
-abbrev pub lines_if : Bool → List ℕ
-lines_if is_due = if is_due then interim_lines else []
 
 -- The interim lines that are due were written once, or nothing where none are; after a fault of the
 -- writer so many bytes of them, and after one of the reader all or none.

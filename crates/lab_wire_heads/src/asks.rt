@@ -3,7 +3,7 @@
 ghost use Rattle.std.specs.Prelude.{◌<◌, ◌≤◌, ◌+◌, OnOk, IfOk};
 ghost use Rattle.std.specs.Io.{ReadsAtMost};
 ghost use Rattle.std.specs.Io.KnownBytes.{ReadConsumes};
-ghost use Rattle.lab_wire_heads.specs.Reading.{TakesByte};
+ghost use Rattle.lab_wire_heads.specs.Private.Reading.{TakesByte};
 
 use crate::HeadFault;
 use lab_forms_streams::ByteSource;

@@ -6,7 +6,8 @@ ghost use Rattle.lab_wire_heads.specs.Accepted.{IsHeadAt};
 ghost use Rattle.lab_wire_heads.specs.Heads.{head_limit};
 ghost use Rattle.lab_wire_heads.specs.Lengths.{body_limit};
 ghost use Rattle.lab_wire_heads.specs.Receptions.{head_stop};
-ghost use Rattle.lab_wire_heads.specs.Reading.{CameBehind, HasBody, IsBodyFault, OnMemory};
+ghost use Rattle.lab_wire_heads.specs.Private.Reading.{CameBehind, HasBody, IsBodyFault};
+ghost use Rattle.lab_wire_heads.specs.Reading.{OnMemory};
 
 use crate::asks::{ReadFault, read_some};
 use crate::{AcceptedHead, HeadFault, HeadRefusal, Received};

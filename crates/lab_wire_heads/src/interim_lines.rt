@@ -2,7 +2,7 @@
 
 ghost use Rattle.std.specs.Prelude.{◌<◌, length, take, OnOk, IfErr};
 ghost use Rattle.std.specs.Io.KnownBytes.{Appends};
-ghost use Rattle.lab_wire_heads.specs.Receiving.{lines_if};
+ghost use Rattle.lab_wire_heads.specs.Private.Receiving.{lines_if};
 
 use lab_forms_streams::{WriteFault, write_whole};
 use std::io::Write;

@@ -2,7 +2,7 @@
 //! only once.
 
 ghost use Rattle.std.specs.Prelude.{◌≡◌};
-ghost use Rattle.lab_wire_heads.specs.Stages.{stage_after, has_ended};
+ghost use Rattle.lab_wire_heads.specs.Private.Stages.{stage_after, has_ended};
 
 /// How much of a head has come.
 #[derive(Clone, Copy, Debug, PartialEq, Eq)]

@@ -30,7 +30,8 @@ use Rattle.lab_wire_replies.specs.Persons.{roles_data, person_data}
 use Rattle.lab_wire_replies.specs.Forms.{with_kind, field_members, field_data, form_data}
 use Rattle.lab_wire_replies.specs.Records.{signed_data, version_state_data, current_of, record_data, row_data, signature_data, value_data, reason_of, version_data, record_state_data}
 use Rattle.lab_wire_replies.specs.Trails.{trail_row_data}
-use Rattle.lab_wire_replies.specs.Replies.{body_of, HasNoFloat}
+use Rattle.lab_wire_replies.specs.Replies.{body_of}
+use Rattle.lab_wire_replies.specs.Private.Replies.{HasNoFloat}
 use Rattle.lab_wire_replies.proofs.FloatLemmas.{neither, list_floats, texts_floats}
 
 -- ---- parts

@@ -6,3 +6,4 @@ pub mod Records
 pub mod Refusals
 pub mod Replies
 pub mod Trails
+pub mod Private

@@ -1,14 +1,11 @@
 -- What the body of a reply tells, a line a reply, and its text: JSON (RFC 8259), or of a copy its
 -- rows as CSV (RFC 4180).
-use Rattle.std.specs.Prelude.{◌≡◌, ℕ, Bool, true, false, ⊤, List, [], ◌∷◌, codes}
+use Rattle.std.specs.Prelude.{ℕ, List, [], ◌∷◌, codes}
 use Rattle.serde_json.specs.Data.{Data, string}
-use Rattle.serde_json.specs.View.{view}
-use Rattle.serde_json.specs.Written.{compact_text, has_float}
+use Rattle.serde_json.specs.Written.{compact_text}
 use Rattle.lab_copy_rows.specs.Csv.{csv_text}
 use Rattle.lab_records_machine.specs.declared.replies.Reply.{Reply}
 use Rattle.lab_records_machine.specs.declared.replies.Reply.TheVariants.{Refused, Card, Opened, Closed, PasswordChanged, PersonDone, HalfTold, RolesSet, Persons, FormMade, FormRead, RecordOpened, Entered, Amended, Signed, RecordRead, VersionRead, Records, Trail, Copied}
-use Rattle.lab_wire_replies.specs.declared.replies.Body.{Body as BodyOfCode}
-use Rattle.lab_wire_replies.specs.declared.replies.Body.TheVariants as bodies
 use Rattle.lab_wire_replies.specs.Parts.{object_from}
 use Rattle.lab_wire_replies.specs.Refusals.{refusal_data}
 use Rattle.lab_wire_replies.specs.Persons.{opened_data, closed_data, changed_data, person_done_data, half_data, roles_set_data, persons_data}
@@ -25,16 +22,6 @@ card_data lab name =
 pub data Body : Type 0 where
   Json : Data → Body
   Csv : List (List (List ℕ)) → Body
-
--- as the code has it
-abbrev pub body_shown : BodyOfCode → Body
-body_shown (bodies.Json value) = Json (view value)
-body_shown (bodies.Csv rows) = Csv rows.now
-
--- whether a reply is told in JSON: all but a copy
-abbrev pub is_json : Reply → Bool
-is_json (Copied rows) = false
-is_json other = true
 
 -- of a reply
 abbrev pub body_of : Reply → Body
@@ -58,11 +45,6 @@ body_of (VersionRead read) = Json (version_data read)
 body_of (Records records) = Json (records_data records)
 body_of (Trail rows) = Json (trail_data rows)
 body_of (Copied rows) = Csv rows
-
--- there is no number with a point in it, so that it has one text
-abbrev pub HasNoFloat : Body → Type 0
-HasNoFloat (Json told) = has_float told ≡ false
-HasNoFloat (Csv rows) = ⊤
 
 -- its text: JSON without blanks, or a row a line
 abbrev pub body_text : Body → List ℕ

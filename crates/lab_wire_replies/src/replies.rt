@@ -2,7 +2,8 @@
 ghost use Rattle.std.specs.Prelude.{◌≡◌, IfOk, true};
 ghost use Rattle.serde_json.specs.View.{view};
 ghost use Rattle.lab_copy_rows.specs.Csv.{csv_text};
-ghost use Rattle.lab_wire_replies.specs.Replies.{Json, card_data, body_shown, body_of, body_text, HasNoFloat, is_json, reply_text};
+ghost use Rattle.lab_wire_replies.specs.Replies.{Json, card_data, body_of, body_text, reply_text};
+ghost use Rattle.lab_wire_replies.specs.Private.Replies.{body_shown, HasNoFloat, is_json};
 
 use crate::members::{object_of, text};
 use crate::records::{

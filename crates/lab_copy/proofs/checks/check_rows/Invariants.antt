@@ -2,7 +2,7 @@
 use Rattle.std.proofs.Common.{◌≡◌, ℕ}
 use Rattle.csv.specs.Reading.{Ready, default_config, reader_config, reader_state, reader_trim, source_of}
 use Rattle.csv.specs.declared.reader.Trim.TheVariants as trim
-use Rattle.lab_copy.specs.Left.{AreRows}
+use Rattle.lab_copy.specs.Private.Left.{AreRows}
 use Rattle.lab_copy.proofs.LeftWords.{FollowsSome, LeavesAt}
 use Rattle.lab_copy.proofs.checks.check_rows.Given as goal
 

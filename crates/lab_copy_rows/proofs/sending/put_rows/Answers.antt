@@ -1,5 +1,5 @@
 use Rattle.std.proofs.Common.{subst, arith}
-use Rattle.lab_copy_rows.specs.Outs.{HasWritten}
+use Rattle.lab_copy_rows.specs.Private.Outs.{HasWritten}
 use Rattle.lab_copy_rows.proofs.SendLemmas.{text_more}
 use Rattle.lab_copy_rows.proofs.sending.put_rows.Goals as goal
 

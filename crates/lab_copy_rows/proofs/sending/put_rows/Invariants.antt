@@ -1,7 +1,7 @@
 -- The writer has written the rows so far.
 use Rattle.std.proofs.Common.{[], take}
 use Rattle.lab_copy_rows.specs.Csv.{csv_text}
-use Rattle.lab_copy_rows.specs.Outs.{HasWritten}
+use Rattle.lab_copy_rows.specs.Private.Outs.{HasWritten}
 use Rattle.lab_copy_rows.proofs.sending.put_rows.Given as goal
 
 abbrev pub invariant-loop-row : goal.invariant-loop-row

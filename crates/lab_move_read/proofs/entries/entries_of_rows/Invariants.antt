@@ -1,5 +1,5 @@
 use Rattle.std.proofs.Common.{◌≡◌, map, take}
-use Rattle.lab_move_read.specs.Records.{entry_read}
+use Rattle.lab_move_read.specs.Private.Records.{entry_read}
 use Rattle.lab_move_read.proofs.entries.entries_of_rows.Given as goal
 
 -- those of the rows so far

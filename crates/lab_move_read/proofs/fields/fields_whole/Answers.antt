@@ -1,7 +1,7 @@
 use Rattle.std.proofs.Common.{◌≡◌, ◌∷◌, length, sym, ap, ◌∙◌, arith, rules}
 use Rattle.std.specs.Vec.Iter.{into_iter_items}
-use Rattle.lab_store_read_forms.specs.Forms.{field_by}
-use Rattle.lab_move_read.specs.Forms.{is_kept_field_head}
+use Rattle.lab_store_read_forms.specs.Private.Forms.{field_by}
+use Rattle.lab_move_read.specs.Private.Forms.{is_kept_field_head}
 use Rattle.lab_store_read.proofs.Loops.{none_left}
 use Rattle.lab_move_read_people.proofs.KeptLoops.{none_kept, one_kept, one_ends, push_ends, all_kept}
 use Rattle.lab_move_read.proofs.fields.fields_whole.Goals as goal

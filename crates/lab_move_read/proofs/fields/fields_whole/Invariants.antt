@@ -1,8 +1,8 @@
 use Rattle.std.proofs.Common.{◌≡◌, length}
 use Rattle.std.specs.Vec.Iter.{into_iter_items, into_iter_len}
 use Rattle.lab_move_tables.specs.Standing.{StandsBySome}
-use Rattle.lab_store_read_forms.specs.Forms.{field_by}
-use Rattle.lab_move_read.specs.Forms.{is_kept_field_head}
+use Rattle.lab_store_read_forms.specs.Private.Forms.{field_by}
+use Rattle.lab_move_read.specs.Private.Forms.{is_kept_field_head}
 use Rattle.lab_move_read.specs.Readable.{HasFieldNames}
 use Rattle.lab_move_read_people.proofs.KeptLoops.{HasKept}
 use Rattle.lab_move_read.proofs.fields.fields_whole.Given as goal

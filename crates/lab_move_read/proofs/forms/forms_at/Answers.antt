@@ -2,7 +2,7 @@ use Rattle.std.proofs.Common.{w64, None, sym, ap, ◌∙◌}
 use Rattle.std.proofs.lemmas.Int.{to_z-of_z}
 use Rattle.lab_move_tables.proofs.Wheres.{where_by_schema, where_and}
 use Rattle.lab_move_read_people.proofs.Found.{rows_then, store_ends}
-use Rattle.lab_move_read.specs.Forms.{forms_run}
+use Rattle.lab_move_read.specs.Private.Forms.{forms_run}
 use Rattle.lab_move_read.proofs.FormsFound.{forms_done, forms_fail}
 use Rattle.lab_move_read.proofs.ReadableParts.{all_form_parts}
 use Rattle.lab_move_read.proofs.forms.forms_at.Goals as goal

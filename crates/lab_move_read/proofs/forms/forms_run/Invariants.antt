@@ -1,6 +1,6 @@
 use Rattle.std.proofs.Common.{◌≡◌, None, drop}
 use Rattle.std.specs.Option.{option_copied}
-use Rattle.lab_move_read.specs.Forms.{forms_run}
+use Rattle.lab_move_read.specs.Private.Forms.{forms_run}
 use Rattle.lab_move_read.proofs.forms.forms_run.Given as goal
 
 -- what is left decides

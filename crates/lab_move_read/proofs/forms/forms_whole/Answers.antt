@@ -1,6 +1,6 @@
 use Rattle.std.proofs.Common.{◌≡◌, ◌∷◌, length, sym, ap, ◌∙◌, arith, rules}
 use Rattle.std.specs.Vec.Iter.{into_iter_items}
-use Rattle.lab_move_read.specs.Forms.{form_at_by, is_kept_form_head}
+use Rattle.lab_move_read.specs.Private.Forms.{form_at_by, is_kept_form_head}
 use Rattle.lab_store_read.proofs.Loops.{none_left}
 use Rattle.lab_move_read_people.proofs.KeptLoops.{none_kept, one_kept, one_ends, push_ends, all_kept}
 use Rattle.lab_move_read.proofs.forms.forms_whole.Goals as goal

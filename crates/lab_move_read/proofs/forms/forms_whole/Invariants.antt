@@ -1,7 +1,7 @@
 use Rattle.std.proofs.Common.{◌≡◌, length}
 use Rattle.std.specs.Vec.Iter.{into_iter_items, into_iter_len}
 use Rattle.lab_move_tables.specs.Standing.{StandsBySome}
-use Rattle.lab_move_read.specs.Forms.{form_at_by, is_kept_form_head}
+use Rattle.lab_move_read.specs.Private.Forms.{form_at_by, is_kept_form_head}
 use Rattle.lab_move_read.specs.Readable.{HasFormParts}
 use Rattle.lab_move_read_people.proofs.KeptLoops.{HasKept}
 use Rattle.lab_move_read.proofs.forms.forms_whole.Given as goal

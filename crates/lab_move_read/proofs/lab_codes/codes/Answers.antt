@@ -4,7 +4,7 @@ use Rattle.sqlite_keyed.proofs.ListLemmas.{map-map}
 use Rattle.lab_store_read.proofs.Queries.{if_then}
 use Rattle.lab_move_tables.specs.Shown.{by_lab, code_shown}
 use Rattle.lab_move_tables.proofs.Wheres.{where_and, where_end}
-use Rattle.lab_move_read.specs.Laboratories.{code_read}
+use Rattle.lab_move_read.specs.Private.Laboratories.{code_read}
 use Rattle.lab_move_read.specs.Readable.{HasLabCode}
 use Rattle.lab_store_read.specs.Cells.{storage}
 use Rattle.lab_move_read_people.proofs.ReadableRows.{unread_none}

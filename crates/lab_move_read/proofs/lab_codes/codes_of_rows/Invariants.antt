@@ -1,5 +1,5 @@
 use Rattle.std.proofs.Common.{◌≡◌, map, take}
-use Rattle.lab_move_read.specs.Laboratories.{code_read}
+use Rattle.lab_move_read.specs.Private.Laboratories.{code_read}
 use Rattle.lab_move_read.proofs.lab_codes.codes_of_rows.Given as goal
 
 -- those of the rows so far

@@ -3,7 +3,7 @@ use Rattle.std.proofs.lemmas.Int.{to_z-of_z}
 use Rattle.std.proofs.lemmas.List.{map-append}
 use Rattle.std.specs.Vec.Iter.{into_iter_items}
 use Rattle.lab_store_read_records.specs.Leaves.{leaf_of}
-use Rattle.lab_move_read.specs.Records.{leaf_by}
+use Rattle.lab_move_read.specs.Private.Records.{leaf_by}
 use Rattle.lab_store_read.proofs.Loops.{none_left}
 use Rattle.lab_move_read_people.proofs.KeptLoops.{none_kept, one_kept, one_ends, push_ends, all_kept}
 use Rattle.lab_move_read.proofs.leaves.leaves_whole.Goals as goal

@@ -2,7 +2,7 @@ use Rattle.std.proofs.Common.{◌≡◌, length, map}
 use Rattle.std.specs.Vec.Iter.{into_iter_items, into_iter_len}
 use Rattle.lab_store_read_records.specs.Leaves.{leaf_of}
 use Rattle.lab_move_tables.specs.Standing.{StandsBySome}
-use Rattle.lab_move_read.specs.Records.{leaf_by, is_kept_leaf}
+use Rattle.lab_move_read.specs.Private.Records.{leaf_by, is_kept_leaf}
 use Rattle.lab_move_read.specs.Readable.{HasLeaf}
 use Rattle.lab_move_read_people.proofs.KeptLoops.{HasKept}
 use Rattle.lab_move_read.proofs.leaves.leaves_whole.Given as goal

@@ -1,5 +1,5 @@
 use Rattle.std.proofs.Common.{◌≡◌, map, take}
-use Rattle.lab_move_read.specs.Records.{signature_read}
+use Rattle.lab_move_read.specs.Private.Records.{signature_read}
 use Rattle.lab_move_read.proofs.signatures.signatures_of_rows.Given as goal
 
 -- those of the rows so far

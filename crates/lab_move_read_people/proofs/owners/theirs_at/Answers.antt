@@ -3,7 +3,7 @@ use Rattle.std.proofs.lemmas.Int.{to_z-of_z}
 use Rattle.lab_store_read.proofs.Queries.{if_then}
 use Rattle.lab_move_tables.proofs.Wheres.{where_and}
 use Rattle.lab_move_read_people.specs.Kept.{found_of}
-use Rattle.lab_move_read_people.specs.Owners.{IsFirstOwner}
+use Rattle.lab_move_read_people.specs.Private.Owners.{IsFirstOwner}
 use Rattle.lab_move_read_people.specs.Readable.{HasFirstOwner}
 use Rattle.lab_move_read_people.proofs.Found.{found_err, store_ends}
 use Rattle.lab_move_read_people.proofs.PeopleFound.{owner_found}

@@ -1,9 +1,9 @@
 use Rattle.std.proofs.Common.{◌≡◌, w64, Option, Some, option_map, IfSome, subst, sym, ap, ◌∙◌, SFits, rules}
 use Rattle.std.proofs.lemmas.Int.{to_z-of_z}
 use Rattle.lab_store_read_people.specs.declared.heads.AskHead.{AskHead}
-use Rattle.lab_store_read_people.specs.Heads.{ask_by}
+use Rattle.lab_store_read_people.specs.Private.Heads.{ask_by}
 use Rattle.lab_move_tables.proofs.Wheres.{where_and}
-use Rattle.lab_move_read_people.specs.Persons.{is_kept_ask}
+use Rattle.lab_move_read_people.specs.Private.Persons.{is_kept_ask}
 use Rattle.lab_move_read_people.specs.Readable.{HasOwner}
 use Rattle.lab_move_read_people.proofs.Found.{found_ends}
 use Rattle.lab_move_read_people.proofs.people.ask_whole.Goals as goal

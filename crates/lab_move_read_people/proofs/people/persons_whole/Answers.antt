@@ -1,7 +1,7 @@
 use Rattle.std.proofs.Common.{◌≡◌, ◌∷◌, length, sym, ap, ◌∙◌, arith, rules, w64}
 use Rattle.std.proofs.lemmas.Int.{to_z-of_z}
 use Rattle.std.specs.Vec.Iter.{into_iter_items}
-use Rattle.lab_store_read_people.specs.Heads.{person_by}
+use Rattle.lab_store_read_people.specs.Private.Heads.{person_by}
 use Rattle.lab_store_read.proofs.Loops.{none_left}
 use Rattle.lab_move_read_people.proofs.KeptLoops.{none_kept, one_kept, one_ends, push_ends, all_kept}
 use Rattle.lab_move_read_people.proofs.people.persons_whole.Goals as goal

@@ -1,9 +1,9 @@
 use Rattle.std.proofs.Common.{◌≡◌, length}
 use Rattle.std.specs.Vec.Iter.{into_iter_items, into_iter_len}
-use Rattle.lab_store_read_people.specs.Heads.{person_by}
+use Rattle.lab_store_read_people.specs.Private.Heads.{person_by}
 use Rattle.lab_move_tables.specs.Standing.{StandsBySome}
 use Rattle.lab_move_read_people.specs.Readable.{HasAsker}
-use Rattle.lab_move_read_people.specs.Persons.{is_kept_head}
+use Rattle.lab_move_read_people.specs.Private.Persons.{is_kept_head}
 use Rattle.lab_move_read_people.proofs.KeptLoops.{HasKept}
 use Rattle.lab_move_read_people.proofs.people.persons_whole.Given as goal
 

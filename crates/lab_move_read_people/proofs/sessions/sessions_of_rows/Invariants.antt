@@ -1,5 +1,5 @@
 use Rattle.std.proofs.Common.{◌≡◌, map, take}
-use Rattle.lab_store_read_people.specs.SessionsShown.{session_read}
+use Rattle.lab_store_read_people.specs.Private.SessionsShown.{session_read}
 use Rattle.lab_move_read_people.proofs.sessions.sessions_of_rows.Given as goal
 
 -- those of the rows so far

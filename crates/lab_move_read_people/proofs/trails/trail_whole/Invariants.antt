@@ -1,9 +1,9 @@
 use Rattle.std.proofs.Common.{◌≡◌, length}
 use Rattle.std.specs.Vec.Iter.{into_iter_items, into_iter_len}
-use Rattle.lab_store_read_trail.specs.Trails.{told_by}
+use Rattle.lab_store_read_trail.specs.Private.Trails.{told_by}
 use Rattle.lab_move_tables.specs.Standing.{StandsBySome}
 use Rattle.lab_move_read_people.specs.Readable.{HasDoer}
-use Rattle.lab_move_read_people.specs.Trails.{is_kept_told}
+use Rattle.lab_move_read_people.specs.Private.Trails.{is_kept_told}
 use Rattle.lab_move_read_people.proofs.KeptLoops.{HasKept}
 use Rattle.lab_move_read_people.proofs.trails.trail_whole.Given as goal
 

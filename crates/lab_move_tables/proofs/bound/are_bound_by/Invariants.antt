@@ -1,6 +1,6 @@
 use Rattle.std.proofs.Common.{◌≡◌, drop}
 use Rattle.std.specs.List.{list_all}
-use Rattle.lab_move_tables.specs.Tests.{is_bound_by}
+use Rattle.lab_move_tables.specs.Private.Tests.{is_bound_by}
 use Rattle.lab_move_tables.proofs.bound.are_bound_by.Given as goal
 
 -- what is left decides

@@ -1,6 +1,6 @@
 use Rattle.std.proofs.Common.{◌≡◌, drop}
 use Rattle.std.specs.List.{list_all}
-use Rattle.lab_move_tables.specs.Tests.{is_sealed}
+use Rattle.lab_move_tables.specs.Private.Tests.{is_sealed}
 use Rattle.lab_move_tables.proofs.bound.is_bound_record.Given as goal
 
 -- what is left decides

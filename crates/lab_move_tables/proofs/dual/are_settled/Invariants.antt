@@ -1,5 +1,5 @@
 use Rattle.std.proofs.Common.{◌≡◌, true, drop}
-use Rattle.lab_move_tables.specs.Tests.{are_settled_after}
+use Rattle.lab_move_tables.specs.Private.Tests.{are_settled_after}
 use Rattle.lab_move_tables.proofs.dual.are_settled.Given as goal
 
 -- what is left decides

@@ -1,5 +1,5 @@
 use Rattle.std.proofs.Common.{◌≡◌, [], take, drop}
-use Rattle.lab_move_tables.specs.Orders.{are_forms_numbered}
+use Rattle.lab_move_tables.specs.Private.Orders.{are_forms_numbered}
 use Rattle.lab_move_tables.proofs.orders.are_forms_numbered.Given as goal
 
 -- what is left decides

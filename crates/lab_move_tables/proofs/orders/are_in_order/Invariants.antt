@@ -1,6 +1,6 @@
 use Rattle.std.proofs.Common.{◌≡◌, None, drop}
 use Rattle.std.specs.Option.{option_copied}
-use Rattle.lab_move_tables.specs.Orders.{are_in_order_after}
+use Rattle.lab_move_tables.specs.Private.Orders.{are_in_order_after}
 use Rattle.lab_move_tables.proofs.orders.are_in_order.Given as goal
 
 -- what is left decides

@@ -1,6 +1,6 @@
 use Rattle.std.proofs.Common.{◌≡◌, ◌+◌, drop}
 use Rattle.lab_people_access.specs.declared.sessions.Session.{Session}
-use Rattle.lab_move_tables.specs.Orders.{are_numbered, are_numbered_after}
+use Rattle.lab_move_tables.specs.Private.Orders.{are_numbered, are_numbered_after}
 use Rattle.lab_move_tables.proofs.orders.are_sessions_numbered.Given as goal
 
 -- what is left decides

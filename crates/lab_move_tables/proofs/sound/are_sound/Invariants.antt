@@ -1,6 +1,6 @@
 use Rattle.std.proofs.Common.{◌≡◌, drop}
 use Rattle.std.specs.List.{list_all}
-use Rattle.lab_move_tables.specs.Tests.{is_sound_record}
+use Rattle.lab_move_tables.specs.Private.Tests.{is_sound_record}
 use Rattle.lab_move_tables.proofs.sound.are_sound.Given as goal
 
 -- what is left decides

@@ -2,7 +2,8 @@ use Rattle.std.proofs.Common.{◌⊎◌, inr, ℕ, [], Result, Ok, Err, IfErr, I
 use Rattle.sqlite.specs.declared.error.Error.{Error}
 use Rattle.sqlite.specs.State.{State, ExecutesInside}
 use Rattle.lab_store_write.specs.Calls.{Steps}
-use Rattle.lab_store_write.specs.Causes.{FailsBy, RunsInside}
+use Rattle.lab_store_write.proofs.AnyEndings.{FailsBy}
+use Rattle.lab_store_write.specs.Causes.{RunsInside}
 use Rattle.lab_store_write.proofs.Failing.{ran_badly, still_on}
 use Rattle.lab_move_write.specs.Namings.{NamesSchema, naming_text}
 use Rattle.lab_move_write.proofs.NamingLemmas.{naming_ours, schema_named}

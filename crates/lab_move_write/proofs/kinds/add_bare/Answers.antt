@@ -3,7 +3,7 @@ use Rattle.sqlite.specs.declared.error.Error.TheVariants.{SqliteFailure}
 use Rattle.sqlite.specs.declared.error.ErrorCode.TheVariants.{OutOfMemory}
 use Rattle.lab_people_access.specs.declared.persons.Person.{Person}
 use Rattle.lab_store_tables.specs.Changes.{AddsPerson}
-use Rattle.lab_store_write.specs.Calls.{Writes}
+use Rattle.lab_store_write.specs.Private.Calls.{Writes}
 use Rattle.lab_store_write.proofs.Writers.{not_asked}
 use Rattle.lab_store_write.proofs.Givers.{by_nobody}
 use Rattle.lab_move_write.proofs.kinds.add_bare.Goals as goal

@@ -1,6 +1,6 @@
 use Rattle.std.proofs.Common.{Ok, map, take}
 use Rattle.lab_records_kept.specs.declared.changes.Change.TheVariants.{TrailAdded}
-use Rattle.lab_move_write.specs.Turns.{MakesInTurn}
+use Rattle.lab_move_write.specs.Private.Turns.{MakesInTurn}
 use Rattle.lab_move_write.proofs.kinds.add_trail.Given as goal
 
 -- those so far were made

@@ -1,5 +1,5 @@
 use Rattle.std.proofs.Common.{Ok, take}
-use Rattle.lab_move_write.specs.Turns.{MakesInTurn}
+use Rattle.lab_move_write.specs.Private.Turns.{MakesInTurn}
 use Rattle.lab_move_write.proofs.Turns.{persons_asked_for}
 use Rattle.lab_move_write.proofs.kinds.set_asks.Given as goal
 

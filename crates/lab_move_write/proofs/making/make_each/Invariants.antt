@@ -1,7 +1,7 @@
 use Rattle.std.proofs.Common.{◌≡◌, Ok, map, take}
 use Rattle.lab_store_files.specs.NewFiles.{IsBlank, IsEmptyUnder}
 use Rattle.lab_move_write.specs.Tables.{own_tables, schema_of}
-use Rattle.lab_move_write.specs.Unfinished.{Makes}
+use Rattle.lab_move_write.specs.Private.Unfinished.{Makes}
 use Rattle.lab_move_write.proofs.making.make_each.Given as goal
 
 -- the tables so far were made

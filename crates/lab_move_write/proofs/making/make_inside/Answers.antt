@@ -3,7 +3,7 @@ use Rattle.sqlite.specs.Held.{state}
 use Rattle.sqlite.specs.State.{HasCleanDisk}
 use Rattle.lab_store_files.specs.NewFiles.{IsBlank}
 use Rattle.lab_store_write.specs.declared.running.Inside.{Inside}
-use Rattle.lab_move_write.specs.Causes.{FailsMaking}
+use Rattle.lab_move_write.specs.Private.Causes.{FailsMaking}
 use Rattle.lab_move_write.proofs.Causes.{making_as}
 use Rattle.lab_move_write.proofs.making.make_inside.Goals as goal
 

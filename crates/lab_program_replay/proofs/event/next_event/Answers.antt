@@ -1,6 +1,6 @@
 use Rattle.std.proofs.Common.{sym, ◌∙◌, ap, Global}
 use Rattle.std.proofs.lemmas.Result.{err_from_is_err_and}
-use Rattle.lab_program_replay.specs.Reading.{IsReadingRefused}
+use Rattle.lab_program_replay.specs.Private.Reading.{IsReadingRefused}
 use Rattle.lab_program_replay.specs.Event.{heading_of}
 use Rattle.lab_program_replay.proofs.NextLemmas.{next_ended, next_no_line, next_no_heading, next_no_bytes, next_taken}
 use Rattle.lab_program_replay.proofs.event.next_event.Goals as goal

@@ -5,7 +5,7 @@ use Rattle.sqlite.proofs.Callers.{memory_is_clean}
 use Rattle.lab_program_replay.specs.declared.fault.ReplayFault.TheVariants.{Memory}
 use Rattle.sqlite.specs.Steps.{over_memory}
 use Rattle.lab_store.specs.StoreWorlds.{store_world}
-use Rattle.lab_program_replay.specs.Replays.{IsBeginFault}
+use Rattle.lab_program_replay.specs.Private.Replays.{IsBeginFault}
 use Rattle.lab_program_replay.proofs.ReplayLemmas.{begin_of_reader, fresh_reader, from_nobody, never_begun, none_beyond}
 use Rattle.lab_program_replay.proofs.replays.run_input.Goals as goal
 

@@ -1,6 +1,7 @@
 use Rattle.std.proofs.Common.{◌∙◌, ap}
 use Rattle.lab_copy_rows.specs.Rows.{fields_in, end_row}
-use Rattle.lab_records_copies.specs.CopyLines.{counts_in, end_line}
+use Rattle.lab_records_copies.specs.Private.CopyLines.{counts_in}
+use Rattle.lab_records_copies.specs.CopyLines.{end_line}
 use Rattle.lab_records_copies.proofs.RowLemmas.{whole_put}
 use Rattle.lab_records_copies.proofs.wholes.copy_rows.Goals as goal
 

@@ -5,7 +5,7 @@ use Rattle.lab_store_tables.specs.Changes.{InTurn}
 use Rattle.lab_store_tables.specs.Steps.{StepsBy}
 use Rattle.lab_store_write_changes.specs.Causes.{OneIsTooMuch}
 use Rattle.lab_store_write_changes.specs.Tried.{TriesAll}
-use Rattle.lab_store.specs.Causes.{TransactionHasItsCauseTrying}
+use Rattle.lab_store.specs.Private.Causes.{TransactionHasItsCauseTrying}
 use Rattle.lab_store.specs.Commits.{EndsStep}
 use Rattle.lab_store_write.proofs.Transactions.{committed_trying, given_up_trying}
 use Rattle.lab_store.proofs.Causes.{ready_so}

@@ -1,7 +1,8 @@
 use Rattle.std.proofs.Common.{◌≡◌, ◌⊎◌, IfErr, rules, subst, sym}
 use Rattle.sqlite.specs.Held.{state}
 use Rattle.sqlite.specs.State.{HasCleanDisk}
-use Rattle.lab_store_write.specs.Causes.{FailsBy, IsTooGreat}
+use Rattle.lab_store_write.proofs.AnyEndings.{FailsBy}
+use Rattle.lab_store_write.specs.Causes.{IsTooGreat}
 use Rattle.lab_store_write.specs.declared.running.Inside.{Inside}
 use Rattle.lab_store_write.proofs.Transactions.{fails_as}
 use Rattle.lab_store.proofs.places.add_inside.Goals as goal

@@ -2,7 +2,7 @@ use Rattle.std.proofs.Common.{◌≡◌, rules, subst}
 use Rattle.std.proofs.lemmas.Result.{on_ok_weaker}
 use Rattle.sqlite.specs.Held.{state}
 use Rattle.lab_store_write.specs.Causes.{IsTooGreat}
-use Rattle.lab_store.specs.Causes.{TransactionHasItsCause}
+use Rattle.lab_store.specs.Private.Causes.{TransactionHasItsCause}
 use Rattle.lab_store.specs.Commits.{EndsStep}
 use Rattle.lab_store_write.proofs.Transactions.{committed_so, given_up_so}
 use Rattle.lab_store.proofs.Causes.{ready_so}

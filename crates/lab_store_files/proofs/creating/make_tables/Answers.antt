@@ -3,7 +3,8 @@ use Rattle.sqlite.specs.State.{HasCleanDisk}
 use Rattle.sqlite.specs.Held.{state}
 use Rattle.lab_store_files.specs.declared.tables.LabTable.TheVariants.{Desk}
 use Rattle.lab_store_files.specs.Tables.{all_tables}
-use Rattle.lab_store_files.specs.NewFiles.{IsEmptyUnder, schema_before, schema_with}
+use Rattle.lab_store_files.specs.NewFiles.{IsEmptyUnder}
+use Rattle.lab_store_files.specs.Private.NewFiles.{schema_before, schema_with}
 use Rattle.lab_store_files.proofs.Making.{before_is, with_is}
 use Rattle.lab_store_files.proofs.Transactions.{none_then, keeps_then}
 use Rattle.lab_store_files.proofs.creating.make_tables.Goals as goal

@@ -2,7 +2,8 @@ use Rattle.std.proofs.Common.{◌≡◌, IsTrue, take}
 use Rattle.sqlite.specs.State.{HasCleanDisk, KeepsCommit, Survives}
 use Rattle.sqlite.specs.Held.{state}
 use Rattle.lab_store_files.specs.Tables.{all_tables}
-use Rattle.lab_store_files.specs.NewFiles.{IsBlank, IsEmptyUnder, schema_of}
+use Rattle.lab_store_files.specs.NewFiles.{IsBlank, IsEmptyUnder}
+use Rattle.lab_store_files.specs.Private.NewFiles.{schema_of}
 use Rattle.lab_store_files.proofs.creating.make_tables.Given as goal
 
 -- the tables so far were made

@@ -3,7 +3,7 @@ use Rattle.lab_store_tables.specs.Ready.{tables_of}
 use Rattle.lab_store_read.proofs.Causes.{passed_on, then_so}
 use Rattle.lab_store_read.proofs.Readers.{may_read, reads_fail, reads_then}
 use Rattle.lab_store_load.specs.Counts.{IsCounted}
-use Rattle.lab_store_load.specs.Parts.{slice_by}
+use Rattle.lab_store_load.specs.Private.Parts.{slice_by}
 use Rattle.lab_store_load.specs.Readable.{HasSlice}
 use Rattle.lab_store_load.proofs.Loaded.{loaded}
 use Rattle.lab_store_load.proofs.loading.load.Goals as goal

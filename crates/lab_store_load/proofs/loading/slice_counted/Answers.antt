@@ -2,7 +2,7 @@ use Rattle.std.proofs.Common.{◌∙◌, ap}
 use Rattle.lab_store_tables.specs.Ready.{tables_of}
 use Rattle.lab_store_read.proofs.Causes.{passed_on, then_so}
 use Rattle.lab_store_read.proofs.Readers.{may_then}
-use Rattle.lab_store_load.specs.Parts.{slice_with}
+use Rattle.lab_store_load.specs.Private.Parts.{slice_with}
 use Rattle.lab_store_load.proofs.loading.slice_counted.Goals as goal
 
 pub returns-in_err-listed-clause-cause : goal.returns-in_err-listed-clause-cause

@@ -3,7 +3,7 @@ use Rattle.std.proofs.lemmas.Int.{to_z-of_z}
 use Rattle.lab_store_tables.specs.Ready.{tables_of}
 use Rattle.lab_store_read.proofs.Causes.{passed_on}
 use Rattle.lab_store_read.proofs.Readers.{none_read, may_end, may_and}
-use Rattle.lab_store_load.specs.Parts.{slice_by}
+use Rattle.lab_store_load.specs.Private.Parts.{slice_by}
 use Rattle.lab_store_load.specs.Readable.{HasSlice}
 use Rattle.lab_store_load.proofs.Counting.{slice_kept}
 use Rattle.lab_store_load.proofs.loading.slice_if.Goals as goal

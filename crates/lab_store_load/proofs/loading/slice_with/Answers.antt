@@ -1,7 +1,7 @@
 use Rattle.std.proofs.lemmas.Result.{err_from_is_err_and}
 use Rattle.lab_store_read.proofs.Causes.{passed_on, passed_so, then_so}
 use Rattle.lab_store_read.proofs.Readers.{may_end, may_both, may_fail}
-use Rattle.lab_store_load.specs.Parts.{slice_of}
+use Rattle.lab_store_load.specs.Private.Parts.{slice_of}
 use Rattle.lab_store_load.proofs.loading.slice_with.Goals as goal
 
 pub returns-in_err-people-clause-reads : goal.returns-in_err-people-clause-reads

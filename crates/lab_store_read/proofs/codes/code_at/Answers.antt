@@ -1,7 +1,8 @@
 use Rattle.std.proofs.Common.{w64, ◌∙◌, ap, option_map, slice_get, subst, sym, IsTrue}
 use Rattle.std.proofs.lemmas.Int.{to_z-of_z}
 use Rattle.lab_store_tables.specs.Ready.{tables_of}
-use Rattle.lab_store_read.specs.Shown.{code_read, shows_code}
+use Rattle.lab_store_read.specs.Private.Shown.{code_read}
+use Rattle.lab_store_read.specs.Shown.{shows_code}
 use Rattle.lab_store_read.proofs.Queries.{if_then}
 use Rattle.lab_store_read.proofs.Readers.{reads_and}
 use Rattle.lab_store_read.proofs.Causes.{made_so, made_there}

@@ -3,7 +3,8 @@ use Rattle.std.proofs.Common.{refl, w64}
 use Rattle.std.proofs.lemmas.Int.{to_z-of_z}
 use Rattle.lab_store_tables.specs.Ready.{tables_of}
 use Rattle.lab_store_read.proofs.Readers.{passes_none}
-use Rattle.lab_store_read_copies.specs.GivenRows.{cover_rows, versions_rows}
+use Rattle.lab_store_read_copies.specs.GivenRows.{cover_rows}
+use Rattle.lab_store_read_copies.specs.Private.GivenRows.{versions_rows}
 use Rattle.lab_store_read_copies.proofs.GivesLemmas.{fault_given, never_blamed, never_unread}
 use Rattle.lab_store_read_copies.proofs.RowLemmas.{cut_in_first, given_behind, sends_behind}
 use Rattle.lab_store_read_copies.proofs.records.give_covered.Goals as goal

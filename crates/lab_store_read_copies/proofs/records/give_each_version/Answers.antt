@@ -15,7 +15,7 @@ use Rattle.lab_store_read.proofs.Readers.{passes_none, unchanged_none, passes_on
 use Rattle.lab_store_read.proofs.Loops.{none_left}
 use Rattle.lab_store_read_records.specs.declared.heads.VersionHead.{VersionHead}
 use Rattle.lab_store_read_records.specs.Leaves.{leaf_by}
-use Rattle.lab_store_read_copies.specs.Causes.{HasPlacedVersions}
+use Rattle.lab_store_read_copies.specs.Private.Causes.{HasPlacedVersions}
 use Rattle.lab_store_read_copies.proofs.CauseLemmas.{none_blamed, version_next, versions_next, then_told}
 use Rattle.lab_store_read_copies.proofs.GivesLemmas.{fault_given, never_blamed}
 use Rattle.lab_store_read_copies.proofs.GoneLemmas.{HasGone, none_gone, version_more, version_cut, gone_front, all_gone, all_given}

@@ -8,7 +8,7 @@ use Rattle.lab_records_kept.specs.Digests.{digest_of}
 use Rattle.lab_store_tables.specs.Rows.{Tables}
 use Rattle.lab_store_tables.specs.Ready.{IsReady, PassesBy, tables_of}
 use Rattle.lab_store_read_records.specs.Leaves.{leaf_by}
-use Rattle.lab_store_read_copies.specs.Causes.{HasPlacedVersions}
+use Rattle.lab_store_read_copies.specs.Private.Causes.{HasPlacedVersions}
 use Rattle.lab_store_read_copies.proofs.GoneLemmas.{HasGone}
 use Rattle.lab_store_read_copies.proofs.records.give_each_version.Given as goal
 

@@ -1,7 +1,7 @@
 use Rattle.std.proofs.Common.{◌≡◌, ◌∷◌, length, sym, ap, ◌∙◌, arith, rules}
 use Rattle.std.specs.Vec.Iter.{into_iter_items}
 use Rattle.lab_store_read.proofs.Loops.{none_left, none_put, one_put, all_put, put_fails}
-use Rattle.lab_store_read_forms.specs.Forms.{field_by}
+use Rattle.lab_store_read_forms.specs.Private.Forms.{field_by}
 use Rattle.lab_store_read.proofs.Causes.{none_asked, one_asked, asked_fails, passed_on, none_told}
 use Rattle.lab_store_read_forms.proofs.Below.{HasItsNames}
 use Rattle.lab_store_read_forms.proofs.fields.add_fields.Goals as goal

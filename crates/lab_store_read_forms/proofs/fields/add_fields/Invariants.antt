@@ -2,7 +2,7 @@ use Rattle.std.proofs.Common.{◌≡◌, length}
 use Rattle.std.specs.Vec.Iter.{into_iter_items, into_iter_len}
 use Rattle.lab_store_read.proofs.Loops.{HasPut}
 use Rattle.lab_store_read.proofs.Causes.{HasAsked}
-use Rattle.lab_store_read_forms.specs.Forms.{field_by}
+use Rattle.lab_store_read_forms.specs.Private.Forms.{field_by}
 use Rattle.lab_store_read_forms.proofs.Below.{HasItsNames}
 use Rattle.lab_store_read_forms.proofs.fields.add_fields.Given as goal
 

@@ -2,7 +2,7 @@ use Rattle.std.proofs.Common.{w64, ◌∙◌, ◌++◌, ap, map}
 use Rattle.std.proofs.lemmas.Int.{to_z-of_z}
 use Rattle.lab_store_tables.specs.Ready.{tables_of}
 use Rattle.lab_store_read.proofs.Readers.{may_read, reads_both}
-use Rattle.lab_store_read_forms.specs.Forms.{field_by}
+use Rattle.lab_store_read_forms.specs.Private.Forms.{field_by}
 use Rattle.lab_store_read_forms.proofs.FormsFound.{fields_built}
 use Rattle.lab_store_read.proofs.Causes.{then_so, passed_on, none_told}
 use Rattle.lab_store_read_forms.proofs.Below.{own_fields, names_below}

@@ -5,7 +5,7 @@ use Rattle.std.specs.Prelude.{IfSome}
 use Rattle.lab_store_read.specs.Reads.{MayRead}
 use Rattle.lab_store_read.proofs.Readers.{may_read, reads_as}
 use Rattle.lab_store_read_forms.specs.declared.heads.FormAt.{FormAt}
-use Rattle.lab_store_read_forms.specs.FormsBehind.{form_with_id, IsAtItsId}
+use Rattle.lab_store_read_forms.specs.Private.FormsBehind.{form_with_id, IsAtItsId}
 use Rattle.lab_store_read_forms.proofs.forms_behind.form_behind.Goals as goal
 
 pub returns-in-Some-clause-reads : goal.returns-in-Some-clause-reads

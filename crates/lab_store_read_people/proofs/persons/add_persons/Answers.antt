@@ -2,7 +2,7 @@ use Rattle.std.proofs.Common.{◌≡◌, ◌∷◌, length, sym, ap, ◌∙◌, 
 use Rattle.std.specs.Vec.Iter.{into_iter_items}
 use Rattle.lab_store_read.proofs.Causes.{none_asked, one_asked, asked_fails, all_asked, passed_so}
 use Rattle.lab_store_read.proofs.Loops.{none_left, none_put, one_put, all_put, put_fails}
-use Rattle.lab_store_read_people.specs.Heads.{person_by}
+use Rattle.lab_store_read_people.specs.Private.Heads.{person_by}
 use Rattle.lab_store_read_people.specs.PersonsReadable.{HasAsker}
 use Rattle.lab_store_read_people.proofs.persons.add_persons.Goals as goal
 

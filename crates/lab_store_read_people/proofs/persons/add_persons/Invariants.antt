@@ -2,7 +2,7 @@ use Rattle.std.proofs.Common.{◌≡◌, length}
 use Rattle.std.specs.Vec.Iter.{into_iter_items, into_iter_len}
 use Rattle.lab_store_read.proofs.Causes.{HasAsked}
 use Rattle.lab_store_read.proofs.Loops.{HasPut}
-use Rattle.lab_store_read_people.specs.Heads.{person_by}
+use Rattle.lab_store_read_people.specs.Private.Heads.{person_by}
 use Rattle.lab_store_read_people.specs.PersonsReadable.{HasAsker}
 use Rattle.lab_store_read_people.proofs.persons.add_persons.Given as goal
 

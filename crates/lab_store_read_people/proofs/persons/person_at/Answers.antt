@@ -6,7 +6,7 @@ use Rattle.lab_store_tables.specs.Ready.{tables_of}
 use Rattle.lab_store_read.proofs.Readers.{reads_then, may_read}
 use Rattle.lab_store_read.specs.Causes.{HasFirst}
 use Rattle.lab_store_read.proofs.Causes.{unread_so, then_so}
-use Rattle.lab_store_read_people.specs.Heads.{person_by}
+use Rattle.lab_store_read_people.specs.Private.Heads.{person_by}
 use Rattle.lab_store_read_people.specs.PersonsReadable.{HasPerson, HasAsker, HasWholePerson}
 use Rattle.lab_store_read_people.specs.PersonsShown.{person_read, person_shown_by}
 use Rattle.lab_store_read_people.proofs.PersonCauses.{first_columns, first_asker}

@@ -1,7 +1,7 @@
 use Rattle.std.proofs.Common.{Some, option_map, sym, ap, ◌∙◌}
 use Rattle.lab_store_tables.specs.Ready.{tables_of}
 use Rattle.lab_store_read.proofs.Readers.{none_read, may_end, may_and}
-use Rattle.lab_store_read_people.specs.Heads.{person_by}
+use Rattle.lab_store_read_people.specs.Private.Heads.{person_by}
 use Rattle.lab_store_read_people.proofs.persons.person_if.Goals as goal
 
 pub returns-in_err-person-in-Some-clause-reads : goal.returns-in_err-person-in-Some-clause-reads

@@ -3,7 +3,7 @@ use Rattle.std.proofs.lemmas.Int.{to_z-of_z}
 use Rattle.lab_store_tables.specs.Ready.{tables_of}
 use Rattle.lab_store_read.proofs.Readers.{reads_both, may_read}
 use Rattle.lab_store_read.proofs.Causes.{passed_on, passed_so, then_so}
-use Rattle.lab_store_read_people.specs.Heads.{person_by}
+use Rattle.lab_store_read_people.specs.Private.Heads.{person_by}
 use Rattle.lab_store_read_people.specs.PersonsReadable.{HasAsker}
 use Rattle.lab_store_read_people.proofs.PersonCauses.{all_columns, all_askers}
 use Rattle.lab_store_read_people.proofs.PersonsFound.{persons_built}

@@ -7,7 +7,8 @@ use Rattle.lab_store_read.proofs.Queries.{if_then}
 use Rattle.lab_store_read.proofs.Readers.{reads_and}
 use Rattle.lab_store_read.specs.Causes.{HasFirst}
 use Rattle.lab_store_read.proofs.Causes.{made_so, made_if}
-use Rattle.lab_store_read_people.specs.SessionsShown.{session_read, sessions_shown, HasSession}
+use Rattle.lab_store_read_people.specs.Private.SessionsShown.{session_read}
+use Rattle.lab_store_read_people.specs.SessionsShown.{sessions_shown, HasSession}
 use Rattle.lab_store_read_people.proofs.SessionsFound.{session_found}
 use Rattle.lab_store_read_people.proofs.sessions.session_at.Goals as goal
 

@@ -5,7 +5,7 @@ use Rattle.std.specs.Prelude.{List, is_some}
 use Rattle.lab_store_tables.specs.Meaning.{chained}
 use Rattle.lab_store_read_records.specs.declared.leaves.VersionLeaf.{VersionLeaf}
 use Rattle.lab_store_read_records.specs.Leaves.{leaf_of}
-use Rattle.lab_store_read_records.specs.Chains.{before_next}
+use Rattle.lab_store_read_records.specs.Private.Chains.{before_next}
 use Rattle.lab_store_read_records.specs.Readable.{ArePlaced}
 use Rattle.lab_store_read_records.proofs.ChainTurns.{chained_turn, placed_turn}
 use Rattle.lab_store_read_records.proofs.chains.add_versions.Goals as goal

@@ -3,7 +3,7 @@ use Rattle.std.specs.Prelude.{is_some}
 use Rattle.std.specs.Vec.Iter.{into_iter_items, into_iter_len}
 use Rattle.lab_store_tables.specs.Meaning.{chained}
 use Rattle.lab_store_read_records.specs.Leaves.{leaf_of}
-use Rattle.lab_store_read_records.specs.Chains.{before_next}
+use Rattle.lab_store_read_records.specs.Private.Chains.{before_next}
 use Rattle.lab_store_read_records.specs.Readable.{ArePlaced}
 use Rattle.lab_store_read_records.proofs.chains.add_versions.Given as goal
 

@@ -2,8 +2,8 @@ use Rattle.std.proofs.Common.{◌≡◌, ◌∷◌, length, sym, ap, ◌∙◌, 
 use Rattle.std.specs.Vec.Iter.{into_iter_items}
 use Rattle.lab_store_read.proofs.Causes.{none_asked, one_asked, asked_fails, all_asked, passed_so}
 use Rattle.lab_store_read.proofs.Loops.{none_left, all_put, put_fails}
-use Rattle.lab_store_read_records.specs.Readable.{HasWriter}
-use Rattle.lab_store_read_records.specs.Heads.{entry_by}
+use Rattle.lab_store_read_records.specs.Private.Readable.{HasWriter}
+use Rattle.lab_store_read_records.specs.Private.Heads.{entry_by}
 use Rattle.lab_store_read.proofs.PutOnce.{none_put_once, one_put_once, put_so}
 use Rattle.lab_store_read_records.proofs.entries.add_entries.Goals as goal
 

@@ -1,9 +1,9 @@
 use Rattle.std.proofs.Common.{◌≡◌, length}
 use Rattle.std.specs.Vec.Iter.{into_iter_items, into_iter_len}
 use Rattle.lab_store_read.proofs.Causes.{HasAsked}
-use Rattle.lab_store_read_records.specs.Readable.{HasWriter}
+use Rattle.lab_store_read_records.specs.Private.Readable.{HasWriter}
 use Rattle.lab_store_read.proofs.PutOnce.{HasPutOnce}
-use Rattle.lab_store_read_records.specs.Heads.{entry_by}
+use Rattle.lab_store_read_records.specs.Private.Heads.{entry_by}
 use Rattle.lab_store_read_records.proofs.entries.add_entries.Given as goal
 
 -- the rows so far, and those to come, are all, and the codes that are kept are right

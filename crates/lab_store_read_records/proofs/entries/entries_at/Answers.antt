@@ -3,8 +3,8 @@ use Rattle.std.proofs.lemmas.Int.{to_z-of_z}
 use Rattle.lab_store_tables.specs.Ready.{tables_of}
 use Rattle.lab_store_read.proofs.Causes.{passed_on, passed_so, then_so}
 use Rattle.lab_store_read.proofs.Readers.{may_read, reads_both}
-use Rattle.lab_store_read_records.specs.Heads.{entry_by}
-use Rattle.lab_store_read_records.specs.Readable.{HasWriter}
+use Rattle.lab_store_read_records.specs.Private.Heads.{entry_by}
+use Rattle.lab_store_read_records.specs.Private.Readable.{HasWriter}
 use Rattle.lab_store_read_records.proofs.Found.{entries_built}
 use Rattle.lab_store_read_records.proofs.EntryCauses.{all_owns, all_writers}
 use Rattle.lab_store_read_records.proofs.entries.entries_at.Goals as goal

@@ -1,13 +1,13 @@
 use Rattle.std.proofs.Common.{w64, ◌∙◌, ap, map, sym, subst}
 use Rattle.std.proofs.lemmas.Int.{to_z-of_z}
 use Rattle.lab_store_tables.specs.Ready.{tables_of}
-use Rattle.lab_store_read_records.specs.Shown.{own_entry_read}
+use Rattle.lab_store_read_records.specs.Private.Shown.{own_entry_read}
 use Rattle.lab_store_read_records.proofs.Found.{entries_found}
 use Rattle.lab_store_read.proofs.Queries.{if_then}
 use Rattle.lab_store_read.proofs.Readers.{reads_and}
 use Rattle.lab_store_read.proofs.Causes.{made_so, made_if}
 use Rattle.std.specs.Prelude.{All}
-use Rattle.lab_store_read_records.specs.Readable.{HasOwnEntry}
+use Rattle.lab_store_read_records.specs.Private.Readable.{HasOwnEntry}
 use Rattle.lab_store_read_records.proofs.entries.entry_heads_at.Goals as goal
 
 pub returns-clause-reads : goal.returns-clause-reads

@@ -1,7 +1,7 @@
 use Rattle.std.proofs.Common.{w64, ◌∙◌, ap, map, sym, subst}
 use Rattle.std.proofs.lemmas.Int.{to_z-of_z}
 use Rattle.lab_store_tables.specs.Ready.{tables_of}
-use Rattle.lab_store_read_records.specs.Shown.{signature_read}
+use Rattle.lab_store_read_records.specs.Private.Shown.{signature_read}
 use Rattle.lab_store_read_records.proofs.Found.{signatures_found}
 use Rattle.lab_store_read.proofs.Queries.{if_then}
 use Rattle.lab_store_read.proofs.Readers.{reads_and}

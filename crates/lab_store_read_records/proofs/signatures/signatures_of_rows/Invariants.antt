@@ -1,5 +1,5 @@
 use Rattle.std.proofs.Common.{◌≡◌, map, take}
-use Rattle.lab_store_read_records.specs.Shown.{signature_read}
+use Rattle.lab_store_read_records.specs.Private.Shown.{signature_read}
 use Rattle.lab_store_read_records.proofs.signatures.signatures_of_rows.Given as goal
 
 -- those of the rows so far

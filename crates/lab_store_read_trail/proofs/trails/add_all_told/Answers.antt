@@ -3,7 +3,7 @@ use Rattle.std.specs.Vec.Iter.{into_iter_items}
 use Rattle.lab_store_read.proofs.Causes.{none_asked, one_asked, asked_fails, all_asked, passed_so}
 use Rattle.lab_store_read.proofs.Loops.{none_left, all_put, put_fails}
 use Rattle.lab_store_read_trail.specs.Readable.{HasDoer}
-use Rattle.lab_store_read_trail.specs.Trails.{told_by}
+use Rattle.lab_store_read_trail.specs.Private.Trails.{told_by}
 use Rattle.lab_store_read.proofs.PutOnce.{none_put_once, one_put_once, put_so}
 use Rattle.lab_store_read_trail.proofs.trails.add_all_told.Goals as goal
 

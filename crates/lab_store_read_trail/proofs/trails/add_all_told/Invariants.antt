@@ -3,7 +3,7 @@ use Rattle.std.specs.Vec.Iter.{into_iter_items, into_iter_len}
 use Rattle.lab_store_read.proofs.Causes.{HasAsked}
 use Rattle.lab_store_read_trail.specs.Readable.{HasDoer}
 use Rattle.lab_store_read.proofs.PutOnce.{HasPutOnce}
-use Rattle.lab_store_read_trail.specs.Trails.{told_by}
+use Rattle.lab_store_read_trail.specs.Private.Trails.{told_by}
 use Rattle.lab_store_read_trail.proofs.trails.add_all_told.Given as goal
 
 -- the rows so far, and those to come, are all, and the codes that are kept are right

@@ -5,7 +5,7 @@ use Rattle.lab_store_read.proofs.Causes.{made_so, made_if}
 use Rattle.lab_store_read.proofs.Queries.{if_then}
 use Rattle.lab_store_read.proofs.Readers.{reads_and}
 use Rattle.lab_store_read_trail.specs.Readable.{HasTold}
-use Rattle.lab_store_read_trail.specs.Trails.{told_heads_within}
+use Rattle.lab_store_read_trail.specs.Private.Trails.{told_heads_within}
 use Rattle.lab_store_read_trail.specs.Shown.{told_read, told_shown_within}
 use Rattle.lab_store_read_trail.proofs.TrailsFound.{told_found}
 use Rattle.lab_store_read_trail.proofs.trails.told_heads_at.Goals as goal

@@ -4,7 +4,7 @@ use Rattle.lab_store_tables.specs.Ready.{tables_of}
 use Rattle.lab_store_read.proofs.Causes.{passed_on, passed_so, then_so}
 use Rattle.lab_store_read.proofs.Readers.{may_read, reads_both}
 use Rattle.lab_store_read_trail.specs.Readable.{HasDoer}
-use Rattle.lab_store_read_trail.specs.Trails.{told_by}
+use Rattle.lab_store_read_trail.specs.Private.Trails.{told_by}
 use Rattle.lab_store_read_trail.proofs.TrailsFound.{told_built}
 use Rattle.lab_store_read_trail.proofs.TrailCauses.{all_columns, all_doers}
 use Rattle.lab_store_read_trail.proofs.trails.trail_within.Goals as goal

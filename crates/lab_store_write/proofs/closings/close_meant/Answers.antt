@@ -1,6 +1,7 @@
 use Rattle.std.proofs.Common.{sym, subst}
 use Rattle.lab_people_access.specs.declared.sessions.Closing.{Closing}
-use Rattle.lab_store_write.specs.Calls.{Steps, Becomes, WritesTrying}
+use Rattle.lab_store_write.specs.Calls.{Steps, WritesTrying}
+use Rattle.lab_store_write.specs.Private.Calls.{Becomes}
 use Rattle.lab_store_write.specs.Tried.{TriesToClose}
 use Rattle.lab_store_write.proofs.Writers.{nothing_asked}
 use Rattle.lab_store_write.specs.Closings.{close_of}

@@ -1,5 +1,6 @@
 use Rattle.std.proofs.Common.{arith, subst}
-use Rattle.lab_store_write.specs.Calls.{Steps, Becomes}
+use Rattle.lab_store_write.specs.Calls.{Steps}
+use Rattle.lab_store_write.specs.Private.Calls.{Becomes}
 use Rattle.lab_store_write.specs.Tried.{Only, TriesToCloseRow, TriesToCloseRows}
 use Rattle.lab_store_write.specs.Statements.{closing_session}
 use Rattle.lab_store_write.proofs.Trying.{in_turn}

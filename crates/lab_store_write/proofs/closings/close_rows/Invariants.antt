@@ -1,6 +1,6 @@
 use Rattle.std.proofs.Common.{Ok, take}
 use Rattle.lab_store_tables.specs.Changes.{InTurn}
-use Rattle.lab_store_write.specs.Calls.{Writes}
+use Rattle.lab_store_write.specs.Private.Calls.{Writes}
 use Rattle.lab_store_write.specs.Closings.{ClosesRow}
 use Rattle.lab_store_write.proofs.closings.close_rows.Given as goal
 

@@ -1,7 +1,7 @@
 use Rattle.std.proofs.Common.{◌≡◌, [], ◌∷◌, refl}
 use Rattle.sqlite_value.specs.declared.value.Value.TheVariants.{Int, Text}
 use Rattle.sqlite.specs.Values.{bound}
-use Rattle.lab_store_write.specs.Shown.{persons_shown}
+use Rattle.lab_store_write.specs.Private.Shown.{persons_shown}
 use Rattle.lab_store_write.specs.Statements.{asking_person}
 use Rattle.lab_store_write.specs.Tried.{Only}
 use Rattle.lab_store_write.proofs.Writers.{rows_found_by, shown_rows}

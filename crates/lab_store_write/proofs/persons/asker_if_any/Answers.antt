@@ -1,6 +1,6 @@
 use Rattle.std.proofs.Common.{option_map, ap}
 use Rattle.lab_store_write.specs.Givers.{Knows}
-use Rattle.lab_store_write.specs.Persons.{asker_in}
+use Rattle.lab_store_write.specs.Private.Persons.{asker_in}
 use Rattle.lab_store_write.specs.Tried.{TriesIfAny}
 use Rattle.lab_store_write.proofs.Writers.{and_so, nothing_asked, fails_so_by}
 use Rattle.lab_store_write.proofs.KeyLemmas.{named_some, named_none}

@@ -6,7 +6,7 @@ use Rattle.lab_store_tables.specs.Rows.{person_id}
 use Rattle.lab_store_tables.specs.Changes.{person_row_of}
 use Rattle.lab_store_tables.specs.Ready.{tables_of}
 use Rattle.lab_store_write.specs.Ids.{row_id}
-use Rattle.lab_store_write.specs.Persons.{with_person}
+use Rattle.lab_store_write.specs.Private.Persons.{with_person}
 use Rattle.lab_store_write.proofs.PersonWords.{person_given}
 use Rattle.lab_store_write.specs.Statements.{adding_person}
 use Rattle.lab_store_write.specs.Tried.{Only}

@@ -4,7 +4,7 @@ use Rattle.sqlite.specs.Values.{bound}
 use Rattle.lab_store_write.specs.Statements.{setting_session}
 use Rattle.lab_store_write.specs.Tried.{Only}
 use Rattle.lab_store_write.proofs.Writers.{wrote_as_by, ran_so}
-use Rattle.lab_store_write.specs.Added.{SetsIfAny}
+use Rattle.lab_store_write.specs.Private.Added.{SetsIfAny}
 use Rattle.lab_store_write.proofs.SessionWrites.{set_session_text, set_session_values, set_session_ours, sets_session}
 use Rattle.lab_store_write.proofs.sessions.update_session.Goals as goal
 

@@ -2,7 +2,7 @@ use Rattle.std.proofs.Common.{IsTrue, take}
 use Rattle.sqlite.specs.Effect.{IsDatabase}
 use Rattle.sqlite.specs.State.{HasCleanDisk}
 use Rattle.lab_store_write.specs.Calls.{Stays, Steps}
-use Rattle.lab_store_write_changes.specs.Framed.{keeps_giver, StepsKnowing}
+use Rattle.lab_store_write_changes.specs.Private.Framed.{keeps_giver, StepsKnowing}
 use Rattle.lab_store_write_changes.proofs.changes.each_inside.Given as goal
 
 -- the changes so far were made

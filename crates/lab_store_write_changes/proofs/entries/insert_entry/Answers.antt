@@ -7,7 +7,7 @@ use Rattle.lab_store_tables.specs.Ready.{tables_of}
 use Rattle.lab_store_write_changes.specs.Statements.{adding_entry}
 use Rattle.lab_store_write.specs.Tried.{Only}
 use Rattle.lab_store_write.proofs.Writers.{wrote_by}
-use Rattle.lab_store_write_changes.specs.EntriesAdded.{entry_at, with_entry}
+use Rattle.lab_store_write_changes.specs.Private.EntriesAdded.{entry_at, with_entry}
 use Rattle.lab_store_write_changes.proofs.EntryWrites.{add_entry_ours, add_entry_text, entry_values, adds_entry}
 use Rattle.lab_store_write_changes.proofs.entries.insert_entry.Goals as goal
 

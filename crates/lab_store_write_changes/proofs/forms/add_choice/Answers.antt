@@ -1,6 +1,6 @@
 use Rattle.std.proofs.Common.{inl, inr, pos, ℕ, ap, ◌∙◌}
 use Rattle.lab_store_write.specs.Tried.{Only}
-use Rattle.lab_store_write_changes.specs.FormsAdded.{choice_at}
+use Rattle.lab_store_write_changes.specs.Private.FormsAdded.{choice_at}
 use Rattle.lab_store_write_changes.specs.Statements.{adding_choice}
 use Rattle.lab_store_write_changes.specs.Tried.{TriesToAddChoice}
 use Rattle.lab_store_write.proofs.Writers.{and_then, fails_so_by, then_fails_by}

@@ -1,6 +1,6 @@
 use Rattle.std.proofs.Common.{Ok, take}
 use Rattle.lab_store_tables.specs.Changes.{InTurn, AddsChoice}
-use Rattle.lab_store_write.specs.Calls.{Writes}
+use Rattle.lab_store_write.specs.Private.Calls.{Writes}
 use Rattle.lab_store_write_changes.proofs.forms.add_choices.Given as goal
 
 -- those so far were added

@@ -4,7 +4,7 @@ use Rattle.lab_store_tables.specs.Rows.{Tables, field_id}
 use Rattle.lab_store_tables.specs.Columns.{kind_names}
 use Rattle.lab_store_tables.specs.Changes.{put_field}
 use Rattle.lab_store_write.specs.Tried.{Only}
-use Rattle.lab_store_write_changes.specs.FormsAdded.{field_at, with_field}
+use Rattle.lab_store_write_changes.specs.Private.FormsAdded.{field_at, with_field}
 use Rattle.lab_store_write_changes.specs.Statements.{adding_field}
 use Rattle.lab_store_write_changes.specs.Tried.{TriesToAddChoices, TriesToAddField}
 use Rattle.lab_store_write.proofs.Writers.{and_two, fails_so_by, then_fails_by, then_third_fails_by}

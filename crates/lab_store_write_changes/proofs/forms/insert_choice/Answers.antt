@@ -7,7 +7,7 @@ use Rattle.lab_store_tables.specs.Ready.{tables_of}
 use Rattle.lab_store_write_changes.specs.Statements.{adding_choice}
 use Rattle.lab_store_write.specs.Tried.{Only}
 use Rattle.lab_store_write.proofs.Writers.{wrote_by}
-use Rattle.lab_store_write_changes.specs.FormsAdded.{choice_at, with_choice}
+use Rattle.lab_store_write_changes.specs.Private.FormsAdded.{choice_at, with_choice}
 use Rattle.lab_store_write_changes.proofs.FormWrites.{add_choice_ours, add_choice_text, choice_values, adds_choice}
 use Rattle.lab_store_write_changes.proofs.forms.insert_choice.Goals as goal
 

@@ -7,7 +7,7 @@ use Rattle.lab_store_write_changes.specs.Statements.{adding_field}
 use Rattle.lab_store_write.specs.Tried.{Only}
 use Rattle.lab_store_write.proofs.Placed.{placed_by}
 use Rattle.lab_store_tables.specs.Rows.{Tables, field_id}
-use Rattle.lab_store_write_changes.specs.FormsAdded.{field_at, with_field}
+use Rattle.lab_store_write_changes.specs.Private.FormsAdded.{field_at, with_field}
 use Rattle.lab_store_write_changes.proofs.FormWrites.{add_field_ours, add_field_text, field_values, adds_field, ids_field}
 use Rattle.lab_store_write_changes.proofs.forms.insert_field.Goals as goal
 

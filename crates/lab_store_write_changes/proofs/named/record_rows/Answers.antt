@@ -1,7 +1,7 @@
 use Rattle.std.proofs.Common.{◌≡◌, [], ◌∷◌, refl}
 use Rattle.sqlite_value.specs.declared.value.Value.TheVariants.{Int}
 use Rattle.sqlite.specs.Values.{bound}
-use Rattle.lab_store_write_changes.specs.VersionsShown.{records_shown}
+use Rattle.lab_store_write_changes.specs.Private.VersionsShown.{records_shown}
 use Rattle.lab_store_tables.specs.Rows.{number}
 use Rattle.lab_store_write_changes.specs.Statements.{asking_record}
 use Rattle.lab_store_write.specs.Tried.{Only}

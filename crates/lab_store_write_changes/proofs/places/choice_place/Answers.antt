@@ -5,7 +5,7 @@ use Rattle.lab_store_tables.specs.Rows.{ChoiceRow, Tables}
 use Rattle.lab_store_write_changes.specs.Statements.{asking_choices}
 use Rattle.lab_store_write.specs.Tried.{Only}
 use Rattle.lab_store_write.proofs.Writers.{place_found_by}
-use Rattle.lab_store_write_changes.specs.FieldsShown.{is_choice_of}
+use Rattle.lab_store_write_changes.specs.Private.FieldsShown.{is_choice_of}
 use Rattle.lab_store_write_changes.proofs.FieldsShownWords.{choices_shown}
 use Rattle.lab_store_write_changes.proofs.FormKeyLemmas.{choices_means, choices_ours, choices_read}
 use Rattle.lab_store_write_changes.proofs.places.choice_place.Goals as goal

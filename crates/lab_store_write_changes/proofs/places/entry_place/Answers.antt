@@ -5,7 +5,7 @@ use Rattle.lab_store_tables.specs.Rows.{EntryRow, Tables}
 use Rattle.lab_store_write_changes.specs.Statements.{asking_entries}
 use Rattle.lab_store_write.specs.Tried.{Only}
 use Rattle.lab_store_write.proofs.Writers.{place_found_by}
-use Rattle.lab_store_write_changes.specs.VersionsShown.{is_entry_of}
+use Rattle.lab_store_write_changes.specs.Private.VersionsShown.{is_entry_of}
 use Rattle.lab_store_write_changes.proofs.VersionsShownWords.{entries_shown}
 use Rattle.lab_store_write_changes.proofs.EntryKeyLemmas.{entries_means, entries_ours, entries_read}
 use Rattle.lab_store_write_changes.proofs.places.entry_place.Goals as goal

@@ -5,7 +5,7 @@ use Rattle.lab_store_tables.specs.Rows.{FieldRow, Tables}
 use Rattle.lab_store_write_changes.specs.Statements.{asking_fields}
 use Rattle.lab_store_write.specs.Tried.{Only}
 use Rattle.lab_store_write.proofs.Writers.{place_found_by}
-use Rattle.lab_store_write_changes.specs.FieldsShown.{is_field_of}
+use Rattle.lab_store_write_changes.specs.Private.FieldsShown.{is_field_of}
 use Rattle.lab_store_write_changes.proofs.FieldsShownWords.{fields_shown}
 use Rattle.lab_store_write_changes.proofs.FormKeyLemmas.{fields_means, fields_ours, fields_read}
 use Rattle.lab_store_write_changes.proofs.places.field_place.Goals as goal

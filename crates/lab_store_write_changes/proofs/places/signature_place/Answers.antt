@@ -5,7 +5,7 @@ use Rattle.lab_store_tables.specs.Rows.{SignatureRow, Tables}
 use Rattle.lab_store_write_changes.specs.Statements.{asking_signatures}
 use Rattle.lab_store_write.specs.Tried.{Only}
 use Rattle.lab_store_write.proofs.Writers.{place_found_by}
-use Rattle.lab_store_write_changes.specs.VersionsShown.{is_signature_of}
+use Rattle.lab_store_write_changes.specs.Private.VersionsShown.{is_signature_of}
 use Rattle.lab_store_write_changes.proofs.VersionsShownWords.{signatures_shown}
 use Rattle.lab_store_write_changes.proofs.EntryKeyLemmas.{signatures_means, signatures_ours, signatures_read}
 use Rattle.lab_store_write_changes.proofs.places.signature_place.Goals as goal

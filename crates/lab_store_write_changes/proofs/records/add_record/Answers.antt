@@ -6,7 +6,8 @@ use Rattle.lab_records_kept.specs.declared.changes.Change.TheVariants.{RecordAdd
 use Rattle.lab_records_kept.specs.declared.records.Version.{Version}
 use Rattle.lab_store_tables.specs.Rows.{LabRow, Tables, record_id}
 use Rattle.lab_store_tables.specs.Changes.{in_lab, record_row_of}
-use Rattle.lab_store_write.specs.Givers.{Knows, EachKnowing}
+use Rattle.lab_store_write.specs.Givers.{Knows}
+use Rattle.lab_store_write.specs.Private.Givers.{EachKnowing}
 use Rattle.lab_store_write.specs.Tried.{Over, Only, TriedFrom}
 use Rattle.lab_store_write_changes.specs.RecordsAdded.{with_record}
 use Rattle.lab_store_write_changes.specs.Statements.{adding_record, counting_records}

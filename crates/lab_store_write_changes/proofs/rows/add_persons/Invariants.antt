@@ -1,6 +1,6 @@
 use Rattle.std.proofs.Common.{Ok, take}
 use Rattle.lab_store_tables.specs.Changes.{InTurn, AddsPerson}
-use Rattle.lab_store_write.specs.Calls.{Writes}
+use Rattle.lab_store_write.specs.Private.Calls.{Writes}
 use Rattle.lab_store_write_changes.proofs.rows.add_persons.Given as goal
 
 -- those so far were added

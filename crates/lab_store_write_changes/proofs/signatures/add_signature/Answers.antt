@@ -3,9 +3,9 @@ use Rattle.std.proofs.Common.{inl, inr, pos, ℕ, ◌+◌, filter, length, ap, �
 use Rattle.lab_store_tables.specs.Rows.{Tables}
 use Rattle.lab_store_write_changes.specs.Statements.{asking_signatures, adding_signature}
 use Rattle.lab_store_write.specs.Tried.{Only, TriedFrom}
-use Rattle.lab_store_write_changes.specs.EntriesAdded.{signature_at}
+use Rattle.lab_store_write_changes.specs.Private.EntriesAdded.{signature_at}
 use Rattle.lab_store_write_changes.specs.Tried.{TriesToAddSignature}
-use Rattle.lab_store_write_changes.specs.VersionsShown.{is_signature_of}
+use Rattle.lab_store_write_changes.specs.Private.VersionsShown.{is_signature_of}
 use Rattle.lab_store_write.proofs.Trying.{found_first}
 use Rattle.lab_store_write.proofs.Writers.{and_two, fails_so_by, then_fails_by, then_third_fails_by}
 use Rattle.lab_store_write_changes.proofs.Added.{signature_added}

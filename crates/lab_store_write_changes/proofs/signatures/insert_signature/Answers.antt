@@ -7,7 +7,7 @@ use Rattle.lab_store_tables.specs.Ready.{tables_of}
 use Rattle.lab_store_write_changes.specs.Statements.{adding_signature}
 use Rattle.lab_store_write.specs.Tried.{Only}
 use Rattle.lab_store_write.proofs.Writers.{wrote_by}
-use Rattle.lab_store_write_changes.specs.EntriesAdded.{signature_at, with_signature}
+use Rattle.lab_store_write_changes.specs.Private.EntriesAdded.{signature_at, with_signature}
 use Rattle.lab_store_write_changes.proofs.EntryWrites.{add_signature_ours, add_signature_text, signature_values, adds_signature}
 use Rattle.lab_store_write_changes.proofs.signatures.insert_signature.Goals as goal
 

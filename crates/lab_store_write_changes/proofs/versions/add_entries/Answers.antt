@@ -1,6 +1,7 @@
 use Rattle.std.proofs.Common.{arith}
 use Rattle.lab_store_tables.specs.Changes.{AddsEntry}
-use Rattle.lab_store_write.specs.Givers.{Knows, EachKnowing}
+use Rattle.lab_store_write.specs.Givers.{Knows}
+use Rattle.lab_store_write.specs.Private.Givers.{EachKnowing}
 use Rattle.lab_store_write.specs.Tried.{TriedFrom}
 use Rattle.lab_store_write_changes.specs.Tried.{TriesToAddEntry, TriesToAddEntries}
 use Rattle.lab_store_write_changes.proofs.Leaving.{entry_leaves}

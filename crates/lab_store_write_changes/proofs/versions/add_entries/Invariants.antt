@@ -1,7 +1,7 @@
 use Rattle.std.proofs.Common.{Ok, take}
 use Rattle.lab_store_tables.specs.Changes.{InTurn, AddsEntry}
-use Rattle.lab_store_write.specs.Calls.{Writes}
-use Rattle.lab_store_write.specs.Givers.{EachKnowing}
+use Rattle.lab_store_write.specs.Private.Calls.{Writes}
+use Rattle.lab_store_write.specs.Private.Givers.{EachKnowing}
 use Rattle.lab_store_write_changes.proofs.versions.add_entries.Given as goal
 
 -- those so far were added

@@ -6,7 +6,8 @@ use Rattle.lab_seal_versions.specs.declared.rows.EntryRow.{EntryRow as Entry}
 use Rattle.lab_records_kept.specs.declared.records.Signature.{Signature}
 use Rattle.lab_store_tables.specs.Rows.{Tables, version_id}
 use Rattle.lab_store_tables.specs.Changes.{version_row_of}
-use Rattle.lab_store_write.specs.Givers.{Knows, EachKnowing}
+use Rattle.lab_store_write.specs.Givers.{Knows}
+use Rattle.lab_store_write.specs.Private.Givers.{EachKnowing}
 use Rattle.lab_store_write.specs.Tried.{Only, TriedFrom}
 use Rattle.lab_store_write_changes.specs.RecordsAdded.{with_version}
 use Rattle.lab_store_write_changes.specs.Statements.{adding_version}

@@ -9,7 +9,7 @@ use Rattle.lab_store_write.proofs.Placed.{placed_by}
 use Rattle.lab_seal_versions.specs.declared.origins.Amendment.{Amendment}
 use Rattle.lab_store_tables.specs.Rows.{Tables, number, optional, version_id}
 use Rattle.lab_store_tables.specs.Changes.{version_row_of}
-use Rattle.lab_store_write_changes.specs.Texts.{amendment_reason}
+use Rattle.lab_store_write_changes.specs.Private.Texts.{amendment_reason}
 use Rattle.lab_store_write_changes.specs.RecordsAdded.{with_version}
 use Rattle.lab_store_write_changes.proofs.RecordWrites.{add_version_ours, add_version_text, version_values, adds_version, ids_version}
 use Rattle.lab_store_write_changes.proofs.versions.insert_version.Goals as goal

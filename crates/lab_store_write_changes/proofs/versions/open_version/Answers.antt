@@ -2,7 +2,8 @@ use Rattle.std.proofs.Common.{ℤ, inl, inr, sym, ap, subst, ◌∙◌}
 use Rattle.lab_records_kept.specs.declared.changes.Change.TheVariants.{VersionOpened}
 use Rattle.lab_store_tables.specs.Rows.{Tables}
 use Rattle.lab_store_tables.specs.Changes.{record_named, set_current, AddsVersion}
-use Rattle.lab_store_write.specs.Calls.{Steps, Becomes}
+use Rattle.lab_store_write.specs.Calls.{Steps}
+use Rattle.lab_store_write.specs.Private.Calls.{Becomes}
 use Rattle.lab_store_write.specs.Givers.{Knows}
 use Rattle.lab_store_write.specs.Tried.{Only, TriedFrom}
 use Rattle.lab_store_write_changes.specs.Statements.{setting_current}

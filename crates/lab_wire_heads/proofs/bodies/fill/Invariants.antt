@@ -1,6 +1,6 @@
 -- behind the place where it began, all bytes so far came from the reader
 use Rattle.std.proofs.Common.{◌+◌, ◌-◌, ◌≤◌, length, take}
-use Rattle.lab_wire_heads.specs.Reading.{CameBehind}
+use Rattle.lab_wire_heads.specs.Private.Reading.{CameBehind}
 use Rattle.lab_wire_heads.proofs.bodies.fill.Given as goal
 
 abbrev pub invariant-loop-end : goal.invariant-loop-end

@@ -1,6 +1,6 @@
 use Rattle.std.proofs.Common.{arith, ◌+◌, ◌≡◌, length, take, refl, subst}
 use Rattle.std.proofs.lemmas.Grind.{common_steps}
-use Rattle.lab_wire_heads.specs.Reading.{CameBehind}
+use Rattle.lab_wire_heads.specs.Private.Reading.{CameBehind}
 use Rattle.lab_wire_heads.proofs.GivenLemmas.{short_body, whole_body}
 use Rattle.lab_wire_heads.proofs.ReceptionLemmas.{request_behind_head}
 use Rattle.lab_wire_heads.proofs.bodies.read_body.Goals as goal

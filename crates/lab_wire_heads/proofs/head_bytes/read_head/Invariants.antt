@@ -2,7 +2,7 @@
 use Rattle.std.proofs.Common.{◌≡◌, ◌+◌, ◌-◌, ◌≤◌, false, length, take}
 use Rattle.std.specs.Io.KnownBytes.{Consumes}
 use Rattle.lab_wire_heads.specs.Heads.{head_limit}
-use Rattle.lab_wire_heads.specs.Stages.{has_ended}
+use Rattle.lab_wire_heads.specs.Private.Stages.{has_ended}
 use Rattle.lab_wire_heads.proofs.StageLemmas.{stage_of}
 use Rattle.lab_wire_heads.proofs.head_bytes.read_head.Given as goal
 

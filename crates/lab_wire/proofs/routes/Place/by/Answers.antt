@@ -1,5 +1,5 @@
 use Rattle.std.proofs.Common.{ap, ◌∙◌}
-use Rattle.lab_wire.specs.Places.{place_shown, asked_by}
+use Rattle.lab_wire.specs.Private.Places.{place_shown, asked_by}
 use Rattle.lab_wire.proofs.MethodLemmas.{unread}
 use Rattle.lab_wire.proofs.routes.Place.by.Goals as goal
 

@@ -2,7 +2,7 @@ use Rattle.std.proofs.Common.{◌≡◌, Some, ap, ◌∙◌, sym, refl}
 use Rattle.std.specs.Option.{ok_or}
 use Rattle.lab_wire.specs.declared.route_refusals.RouteRefusal.TheVariants.{NoRoute}
 use Rattle.lab_wire.specs.Paths.{place_in}
-use Rattle.lab_wire.specs.Places.{place_shown}
+use Rattle.lab_wire.specs.Private.Places.{place_shown}
 use Rattle.lab_wire.proofs.AimLemmas.{asks_there, refused_there}
 use Rattle.lab_wire.proofs.PlaceLemmas.{place_begins}
 use Rattle.lab_wire.proofs.routes.Routes.aim_by.Goals as goal

@@ -5,8 +5,8 @@ use Rattle.lab_wire.specs.declared.routes.Place.{Place as PlaceOfCode}
 use Rattle.lab_wire.specs.Paths.{segments, place_in}
 use Rattle.lab_wire.specs.Routes.{all_admitted}
 use Rattle.lab_wire.specs.Aims.{no_parts, parts_from}
-use Rattle.lab_wire.specs.Places.{Place, place_shown}
-use Rattle.lab_wire.specs.Router.{text_at}
+use Rattle.lab_wire.specs.Private.Places.{Place, place_shown}
+use Rattle.lab_wire.specs.Private.Router.{text_at}
 use Rattle.lab_wire.proofs.AimLemmas.{admitted_if}
 use Rattle.lab_wire.proofs.PlaceLemmas.{place_begins}
 use Rattle.lab_wire.proofs.PlaceLaws.{numbered_within, numbered_there, numbered_elsewhere, numbered_nowhere}

@@ -1,0 +1,6 @@
+-- What clauses of private functions name. No public clause rests on it, so nobody has to believe it.
+pub mod Checks
+pub mod Faults
+pub mod Fronts
+pub mod Kept
+pub mod Left

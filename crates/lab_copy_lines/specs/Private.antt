@@ -1,0 +1,3 @@
+-- What clauses of private functions name. No public clause rests on it, so nobody has to believe it.
+pub mod Lines
+pub mod Parts

@@ -1,0 +1,6 @@
+-- What clauses of private functions name. No public clause rests on it, so nobody has to believe it.
+pub mod Cells
+pub mod Kept
+pub mod Owners
+pub mod Persons
+pub mod Trails

@@ -1,0 +1,5 @@
+-- What clauses of private functions name. No public clause rests on it, so nobody has to believe it.
+pub mod Chains
+pub mod Heads
+pub mod Readable
+pub mod Shown

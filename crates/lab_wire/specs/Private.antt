@@ -1,0 +1,4 @@
+-- What clauses of private functions name. No public clause rests on it, so nobody has to believe it.
+pub mod Commands
+pub mod Places
+pub mod Router
